@@ -1,0 +1,2 @@
+-- What the contracts of the C functions cite.
+pub mod Poles

@@ -1,0 +1,62 @@
+-- Floats and ids, there and back: what was written is read back, and what was read is written back.
+use mathlib.Core.Path.{_≡_, refl, sym, ap, _∙_, subst}
+use mathlib.Core.List.{List, _++_}
+use mathlib.Core.Bool.{Bool, true, false}
+use Prim.Native.Nat.{ℕ, _*_, _^_, _≤_, _<_}
+use native.Mathlib.Omega.{arith}
+use lib.Dec.{T, ltb→lt, lt→ltb}
+use lib.ListN.{length, take}
+use lib.Ieee.{Float, binary64, toBits, ofBits, fits}
+use lib.Ieee.Bits.{ofBits-toBits, ofBits-fits, toBits-lt}
+use Rattle.codec.specs.Bytes.{le, unle, bytesFit, fine, readF, floatBytes}
+use Rattle.codec.specs.Bytes.{floatsBytes, floatsOf, allFine, floatsFit, idsBytes, idsOf, idsFit}
+use Rattle.codec.proofs.Bytes.{unle-le, le-unle, unle-lt}
+use Rattle.codec.proofs.Patterns.{read-number, read-other, bits-fine, bits-back}
+use Rattle.codec.proofs.Elements.{elements-back, pass-back, bytes-back, elements-fit, allPass-any}
+use Rattle.codec.specs.declared.floats.ReadF.the-variants.{Number, OtherNan}
+
+-- ---- one float
+pub float-back : (x : Float) → T (fits binary64 x) → readF (unle (floatBytes x)) ≡ Number x
+float-back x t =
+    ap readF (unle-le 8 (toBits binary64 x) (toBits-lt binary64 x t))
+    ∙ read-number (toBits binary64 x) (bits-fine x t)
+    ∙ ap Number (ofBits-toBits binary64 x t)
+
+pub float-bytes : (l : List ℕ) (x : Float) → length l ≡ 8 → T (bytesFit l) → readF (unle l) ≡ Number x → floatBytes x ≡ l
+float-bytes l x e b r = go (fine (unle l)) refl
+  where
+    go : (t : Bool) → fine (unle l) ≡ t → floatBytes x ≡ l
+    go true f =
+        let n : Number (ofBits binary64 (unle l)) ≡ Number x = sym (read-number (unle l) f) ∙ r in
+        let q : x ≡ ofBits binary64 (unle l) = cc in
+        ap floatBytes q
+        ∙ ap (le 8) (bits-back (unle l) (subst (λ (n : ℕ). unle l < 256 ^ n) e (unle-lt l b)) f)
+        ∙ le-unle 8 l e b
+    go false f =
+        let n : OtherNan ≡ Number x = sym (read-other (unle l) f) ∙ r in
+        let z : _≡_ {A = ℕ} 0 1 = cc in
+        absurd (omega arith)
+
+-- ---- a store of floats
+pub floats-back : (xs : List Float) (r : List ℕ) → T (floatsFit xs) → floatsOf (length xs) (floatsBytes xs ++ r) ≡ xs
+floats-back =
+    elements-back 8 (toBits binary64) (fits binary64) (ofBits binary64) (λ x t. (toBits-lt binary64 x t, ofBits-toBits binary64 x t))
+
+pub floats-fine : (xs : List Float) (r : List ℕ) → T (floatsFit xs) → allFine (length xs) (floatsBytes xs ++ r) ≡ true
+floats-fine = pass-back 8 (toBits binary64) (fits binary64) fine (λ x t. (toBits-lt binary64 x t, bits-fine x t))
+
+pub floats-bytes : (n : ℕ) (l : List ℕ) → 8 * n ≤ length l → T (bytesFit l) → allFine n l ≡ true → floatsBytes (floatsOf n l) ≡ take (8 * n) l
+floats-bytes = bytes-back 8 (ofBits binary64) (toBits binary64) fine bits-back
+
+pub floats-fit : (n : ℕ) (l : List ℕ) → 8 * n ≤ length l → T (bytesFit l) → T (floatsFit (floatsOf n l))
+floats-fit = elements-fit 8 (ofBits binary64) (fits binary64) (λ b _. ofBits-fits binary64 b)
+
+-- ---- a store of ids
+pub ids-back : (ns r : List ℕ) → T (idsFit ns) → idsOf (length ns) (idsBytes ns ++ r) ≡ ns
+ids-back = elements-back 4 (λ n. n) _ (λ n. n) (λ n t. (ltb→lt n (256 ^ 4) t, refl))
+
+pub ids-bytes : (n : ℕ) (l : List ℕ) → 4 * n ≤ length l → T (bytesFit l) → idsBytes (idsOf n l) ≡ take (4 * n) l
+ids-bytes n l h b = bytes-back 4 (λ n. n) (λ n. n) (λ _. true) (λ _ _ _. refl) n l h b (allPass-any 4 n l)
+
+pub ids-fit : (n : ℕ) (l : List ℕ) → 4 * n ≤ length l → T (bytesFit l) → T (idsFit (idsOf n l))
+ids-fit = elements-fit 4 (λ n. n) _ (λ b h. lt→ltb b (256 ^ 4) h)

@@ -1,0 +1,3 @@
+-- What the contracts of dispersion cite.
+pub mod Ade
+pub mod Material

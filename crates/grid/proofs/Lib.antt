@@ -1,0 +1,10 @@
+-- Laws that the functions' proofs, and the crates above, cite.
+pub mod Tests
+pub mod Judging
+pub mod Filling
+pub mod Blocks
+pub mod Sweeps
+pub mod Pointwise
+pub mod Opened
+pub mod Settled
+pub mod Canonical

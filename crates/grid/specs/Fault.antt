@@ -1,0 +1,96 @@
+-- The refusals that a study record itself brings on (document 01, "What each call turns down"): 1 BadSize, 2 BadSpacing, 3 BadStudy. Definitions only.
+use Prim.Native.Nat.{ℕ, zero, suc, _*_}
+use mathlib.Core.Bool.{Bool, true, false, not, _&&_, _||_}
+use mathlib.Core.List.{List, []}
+use lib.Dec.{leb, ltb, eqb}
+use lib.ListN.{getD}
+use lib.Ieee.{nan}
+use lib.Ieee.Positive.{positive}
+use Rattle.root.specs.declared.Spacings.{Spacings}
+use Rattle.dispersion.specs.declared.DispersiveMaterial.{DispersiveMaterial}
+use Rattle.grid.specs.declared.RegionKind.{RegionKind}
+use Rattle.grid.specs.declared.RegionKind.the-variants.{Absent, SlabZ, InjectorZ, BoxRegion}
+use Rattle.grid.specs.declared.Region.{Region}
+use Rattle.grid.specs.declared.Record.{Record}
+use Rattle.grid.specs.Limits.{maxSide, maxCells, maxPoleSlots, maxMaterials}
+
+abbrev pub badSize : ℕ
+badSize = 1
+
+abbrev pub badSpacing : ℕ
+badSpacing = 2
+
+abbrev pub badStudy : ℕ
+badStudy = 3
+
+-- ---- 1: a size outside the ranges
+unfoldable pub sideFits : ℕ → Bool
+sideFits n = leb 1 n && leb n maxSide
+
+unfoldable pub sidesFit : ℕ → ℕ → ℕ → Bool
+sidesFit nx ny nz = sideFits nx && sideFits ny && sideFits nz
+
+unfoldable pub sizeFits : ℕ → ℕ → ℕ → Bool
+sizeFits nx ny nz = sidesFit nx ny nz && leb (nx * ny * nz) maxCells
+
+-- ---- 2: dx, dy, dz or dt not finite or not above 0; `positive` is finite and above 0
+unfoldable pub spacingsFit : Spacings → Bool
+spacingsFit s = positive (s .dx) && positive (s .dy) && positive (s .dz) && positive (s .dt)
+
+-- ---- 3, clause by clause
+-- what stands past the end of the materials to Rattle
+abbrev pub beyond : DispersiveMaterial
+beyond = record { «eps_inf» = nan; sigma = nan; «mu_r» = nan; «pole_count» = 0; poles = [] }
+
+abbrev pub poleCount : Record → ℕ → ℕ
+poleCount r i = getD (r .materials) i beyond .«pole_count»
+
+-- P above 4, material count not 1 to 16, built count above it, material 0 with a pole
+unfoldable pub countsFit : Record → Bool
+countsFit r =
+    leb (r .«pole_slots») maxPoleSlots
+    && leb 1 (r .«material_count»)
+    && leb (r .«material_count») maxMaterials
+    && leb (r .«built_count») (r .«material_count»)
+    && eqb (poleCount r 0) 0
+
+-- f of every number below n
+unfoldable pub allBelow : (ℕ → Bool) → ℕ → Bool
+allBelow f zero = true
+allBelow f (suc n) = allBelow f n && f n
+
+-- a material with more than P poles
+unfoldable pub polesFit : Record → Bool
+polesFit r = allBelow (λ i. leb (poleCount r i) (r .«pole_slots»)) (r .«material_count»)
+
+-- an active axis with the layer off
+unfoldable pub layerFits : List Bool → Bool → Bool
+layerFits active on = on || not (getD active 0 false || getD active 1 false || getD active 2 false)
+
+-- a region failing 9's test: i0 ≤ i1 < nx, j0 ≤ j1 < ny, k0 ≤ k1 < nz
+unfoldable pub cornersFit : Region → ℕ → ℕ → ℕ → Bool
+cornersFit r nx ny nz =
+    leb (r .i0) (r .i1) && ltb (r .i1) nx && leb (r .j0) (r .j1) && ltb (r .j1) ny && leb (r .k0) (r .k1) && ltb (r .k1) nz
+
+abbrev pub isAbsent : RegionKind → Bool
+isAbsent Absent = true
+isAbsent SlabZ = false
+isAbsent InjectorZ = false
+isAbsent BoxRegion = false
+
+unfoldable pub regionFits : Region → ℕ → ℕ → ℕ → Bool
+regionFits r nx ny nz = isAbsent (r .kind) || cornersFit r nx ny nz
+
+unfoldable pub studyFits : Record → Bool
+studyFits r = countsFit r && polesFit r && layerFits (r .active) (r .«layer_on») && regionFits (r .region) (r .nx) (r .ny) (r .nz)
+
+-- ---- the first fault's number, or 0
+abbrev pub first : Bool → ℕ → ℕ → ℕ
+first true n later = later
+first false n later = n
+
+unfoldable pub faultOf : Record → ℕ
+faultOf r =
+    first (sizeFits (r .nx) (r .ny) (r .nz)) badSize
+    (first (spacingsFit (r .spacings)) badSpacing
+    (first (studyFits r) badStudy 0))

@@ -1,0 +1,11 @@
+-- What the contracts of grid cite.
+pub mod Limits
+pub mod Fault
+pub mod Sound
+pub mod Stores
+pub mod Canon
+pub mod Cells
+pub mod Blocks
+pub mod Box
+pub mod Opening
+pub mod Materials

@@ -1,0 +1,101 @@
+-- The nine lent stores, how long each has to be (document 01, "Stores and study record"), refusal 4 BadStore, and what a call comes to. Definitions only.
+use Prim.Native.Nat.{ℕ, zero, suc, _+_, _*_}
+use mathlib.Core.Bool.{Bool, _&&_}
+use mathlib.Core.List.{List}
+use lib.Dec.{eqb}
+use lib.ListN.{length}
+use lib.Ieee.{Float}
+use Rattle.grid.specs.declared.Record.{Record}
+use Rattle.grid.specs.declared.stores.Lengths.{Lengths}
+use Rattle.grid.specs.Fault.{faultOf, first}
+
+-- electric: ex, ey, ez. magnetic: hx, hy, hz. media, the cell numbers: eps_r, mu_r, sigma. psiE, psiH: the layer's memories in the order of `Psi`.
+-- tables, the absorber tables: of each axis kinv_e, b_e, c_e, kinv_h, b_h, c_h. poles: p by slot and component, p_prev alike, dp.
+-- aux, the auxiliary line: ex, hy. ids: a material's number for each cell.
+pub record Stores : Type 0 where
+  pub electric : List Float
+  pub magnetic : List Float
+  pub media : List Float
+  pub psiE : List Float
+  pub psiH : List Float
+  pub tables : List Float
+  pub poles : List Float
+  pub aux : List Float
+  pub ids : List ℕ
+
+-- the nine as a contract names them
+abbrev pub stores : (electric magnetic media psiE psiH tables poles aux : List Float) → List ℕ → Stores
+stores e h m pe ph t p a i =
+    record { electric = e; magnetic = h; media = m; psiE = pe; psiH = ph; tables = t; poles = p; aux = a; ids = i }
+
+-- N
+abbrev pub cells : Record → ℕ
+cells r = r .nx * r .ny * r .nz
+
+unfoldable pub storeLengths : Record → Lengths
+storeLengths r = record {
+  electric = 3 * cells r;
+  magnetic = 3 * cells r;
+  media = 3 * cells r;
+  «psi_e» = 6 * cells r;
+  «psi_h» = 6 * cells r;
+  tables = 6 * (r .nx + r .ny + r .nz);
+  poles = (6 * r .«pole_slots» + 3) * cells r;
+  aux = 2 * (r .nz + 48);
+  ids = cells r;
+}
+
+abbrev pub lengthsOf : Stores → Lengths
+lengthsOf s = record {
+  electric = length (s .electric);
+  magnetic = length (s .magnetic);
+  media = length (s .media);
+  «psi_e» = length (s .psiE);
+  «psi_h» = length (s .psiH);
+  tables = length (s .tables);
+  poles = length (s .poles);
+  aux = length (s .aux);
+  ids = length (s .ids);
+}
+
+unfoldable pub sameLengths : Lengths → Lengths → Bool
+sameLengths a b =
+    eqb (a .electric) (b .electric)
+    && eqb (a .magnetic) (b .magnetic)
+    && eqb (a .media) (b .media)
+    && eqb (a .«psi_e») (b .«psi_e»)
+    && eqb (a .«psi_h») (b .«psi_h»)
+    && eqb (a .tables) (b .tables)
+    && eqb (a .poles) (b .poles)
+    && eqb (a .aux) (b .aux)
+    && eqb (a .ids) (b .ids)
+
+abbrev pub badStore : ℕ
+badStore = 4
+
+-- the first number that is not 0
+abbrev pub orElse : ℕ → ℕ → ℕ
+orElse zero n = n
+orElse (suc m) n = suc m
+
+-- the four faults that come first in every call: 1 to 3 of the record, then 4 unless what is lent has the right lengths
+unfoldable pub faultLent : Record → Bool → ℕ
+faultLent r fits = orElse (faultOf r) (first fits badStore 0)
+
+-- the same where all nine are lent
+abbrev pub faultWith : Record → Lengths → ℕ
+faultWith r l = faultLent r (sameLengths l (storeLengths r))
+
+-- what a call on a study record comes to: the refusal's number or 0, the record, and the stores that it was lent
+pub record Outcome (A : Type 0) : Type 0 where
+  pub refusal : ℕ
+  pub study : Record
+  pub lent : A
+
+abbrev pub outcome : {A : Type 0} → ℕ → Record → A → Outcome A
+outcome n r s = record { refusal = n; study = r; lent = s }
+
+-- refused: all as it was; accepted: the new record and stores
+abbrev pub settle : {A : Type 0} → ℕ → Record → A → Record → A → Outcome A
+settle zero r s r' s' = outcome 0 r' s'
+settle (suc n) r s r' s' = outcome (suc n) r s

@@ -1,0 +1,65 @@
+// The study record, its nine stores, the four refusals that come first in every call, and opening.
+pub mod cells;
+pub mod fault;
+pub mod opening;
+pub mod stores;
+
+use dispersion::DispersiveMaterial;
+use root::Spacings;
+
+// Which faces of a total-field/scattered-field region are closed: none, the two z faces, the lower z face, all six.
+pub enum RegionKind {
+    Absent,
+    SlabZ,
+    InjectorZ,
+    BoxRegion,
+}
+
+// The corners are inclusive; those of an absent region mean nothing.
+pub struct Region {
+    pub kind: RegionKind,
+    pub i0: usize,
+    pub i1: usize,
+    pub j0: usize,
+    pub j1: usize,
+    pub k0: usize,
+    pub k1: usize,
+}
+
+// Cells by half-open ranges of indices: i0 up to i1, and so on.
+pub struct IndexBox {
+    pub i0: usize,
+    pub i1: usize,
+    pub j0: usize,
+    pub j1: usize,
+    pub k0: usize,
+    pub k1: usize,
+}
+
+pub struct Clock {
+    pub time: f64,
+    pub steps: u32,
+}
+
+// built_count is the number of materials when dispersion was last built, 0 where it is off.
+pub struct Record {
+    pub nx: usize,
+    pub ny: usize,
+    pub nz: usize,
+    pub pole_slots: usize,
+    pub spacings: Spacings,
+    pub periodic: [bool; 3],
+    pub active: [bool; 3],
+    pub layer_on: bool,
+    pub materials: [DispersiveMaterial; 16],
+    pub material_count: usize,
+    pub built_count: usize,
+    pub region: Region,
+    pub clock: Clock,
+}
+
+// The refusal's number, 0 where the call was accepted, and the record after it.
+pub struct Answer {
+    pub refusal: u32,
+    pub study: Record,
+}

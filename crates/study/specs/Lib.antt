@@ -1,0 +1,2 @@
+-- What the project as a whole states.
+pub mod Starred

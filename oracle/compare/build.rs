@@ -1,0 +1,23 @@
+//! Links the engine's static library, and passes on whether the original was found.
+
+use std::env;
+use std::path::PathBuf;
+
+fn main() {
+    let package = PathBuf::from(env::var("CARGO_MANIFEST_DIR").unwrap());
+    let folder = package.ancestors().nth(2).unwrap().join("target/staticlib");
+    let library = folder.join("libapi.a");
+    assert!(
+        library.exists(),
+        "{} is not there: run `rt staticlib api` first",
+        library.display()
+    );
+    println!("cargo::rerun-if-changed={}", library.display());
+    println!("cargo::rustc-link-search=native={}", folder.display());
+    println!("cargo::rustc-link-lib=static=api");
+
+    println!("cargo::rustc-check-cfg=cfg(original)");
+    if env::var("DEP_PHYZ_EM_FOUND").is_ok() {
+        println!("cargo::rustc-cfg=original");
+    }
+}

@@ -13,6 +13,11 @@ use Rattle.codec.specs.Lists.{put, part, every}
 use Rattle.codec.specs.Bytes.{le, unle, bytesFit}
 use Rattle.codec.proofs.Lists.{put-next, part-put, part-length, every-take}
 
+-- the lowest byte first: 1388 is 5 * 256 + 108
+pub low-first : le 4 1388 ≡ 108 ∷ 5 ∷ 0 ∷ 0 ∷ []
+unfolding le
+low-first = refl
+
 pub length-le : (w n : ℕ) → length (le w n) ≡ w
 unfolding le
 length-le zero n = refl

@@ -54,6 +54,11 @@ pub read-other : (b : ℕ) → fine b ≡ false → readF b ≡ OtherNan
 unfolding readF
 read-other b h = ap (λ (t : Bool). cond t (Number (ofBits binary64 b)) OtherNan) h
 
+-- document 01's rule in numbers: the one NaN is written so and accepted so; the pattern after it and its negative are refused
+pub one-nan : (toBits binary64 nan ≡ 0x7FF8000000000000) × (fine 0x7FF8000000000000 ≡ true) × (fine 0x7FF8000000000001 ≡ false) × (fine 0xFFF8000000000000 ≡ false)
+unfolding toBits fine nanBits
+one-nan = (refl, refl, refl, refl)
+
 -- ---- there and back
 -- what is written for a float is a pattern that is accepted
 pub bits-fine : (x : Float) → T (fits binary64 x) → fine (toBits binary64 x) ≡ true

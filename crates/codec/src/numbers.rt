@@ -1,4 +1,5 @@
-// Numbers of one, two, four and eight bytes, the lowest byte first.
+// Numbers of one, two, four and eight bytes, the lowest byte first. A number is written and read in two halves;
+// the compiler joins what comes of that to one store and one load.
 
 ghost use mathlib.Core.Path.{_≡_};
 ghost use Prim.Native.Nat.{_+_, _≤_, _<_};

@@ -2,9 +2,6 @@
 pub mod Tests
 pub mod Judging
 pub mod Filling
-pub mod Blocks
-pub mod Sweeps
-pub mod Pointwise
 pub mod Opened
 pub mod Settled
 pub mod Canonical

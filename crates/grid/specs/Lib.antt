@@ -4,8 +4,4 @@ pub mod Fault
 pub mod Sound
 pub mod Stores
 pub mod Canon
-pub mod Cells
-pub mod Blocks
-pub mod Box
 pub mod Opening
-pub mod Materials

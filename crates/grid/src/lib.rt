@@ -1,5 +1,4 @@
 // The study record, its nine stores, the four refusals that come first in every call, and opening.
-pub mod cells;
 pub mod fault;
 pub mod opening;
 pub mod stores;
@@ -18,16 +17,6 @@ pub enum RegionKind {
 // The corners are inclusive; those of an absent region mean nothing.
 pub struct Region {
     pub kind: RegionKind,
-    pub i0: usize,
-    pub i1: usize,
-    pub j0: usize,
-    pub j1: usize,
-    pub k0: usize,
-    pub k1: usize,
-}
-
-// Cells by half-open ranges of indices: i0 up to i1, and so on.
-pub struct IndexBox {
     pub i0: usize,
     pub i1: usize,
     pub j0: usize,

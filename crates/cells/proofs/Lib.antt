@@ -1,0 +1,4 @@
+-- Laws that the functions' proofs, and the crates above, cite.
+pub mod Blocks
+pub mod Sweeps
+pub mod Pointwise

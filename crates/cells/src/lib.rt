@@ -1,0 +1,101 @@
+// A box of cells of one store set to one value, f64 and u32. The proofs of both cite the same laws, over the element type.
+ghost use mathlib.Core.Path.{_≡_};
+ghost use Prim.Native.Nat.{_+_, _*_, _≤_};
+ghost use lib.ListN.{length};
+ghost use Rattle.cells.specs.Blocks.{Ends, on, setRow, setPlane, setBox};
+// Cells by half-open ranges of indices: i0 up to i1, and so on.
+pub struct IndexBox {
+    pub i0: usize,
+    pub i1: usize,
+    pub j0: usize,
+    pub j1: usize,
+    pub k0: usize,
+    pub k1: usize,
+}
+
+// Where a loop from a ends that goes over the numbers below both e and n: at a itself where there are none.
+fn span_end(a: usize, e: usize, n: usize) -> usize
+    ensures { λ r. ⌜ Ends a e n r ⌝ }
+{
+    if e < n {
+        if a < e { e } else { a }
+    } else {
+        if a < n { n } else { a }
+    }
+}
+
+fn fill_row(s: &mut [f64], at: usize, nx: usize, i0: usize, i1: usize, v: f64)
+    requires { ⌜ at + nx ≤ length (now s) ⌝ }
+    ensures { λ _. ⌜ now (s .exit) ≡ on at nx (setRow nx i0 i1 v) (now (s .entry)) ⌝ }
+{
+    let end = span_end(i0, i1, nx);
+    let mut i = i0;
+    while i < end {
+        s[at + i] = v;
+        i += 1;
+    }
+}
+
+fn fill_plane(s: &mut [f64], at: usize, nx: usize, ny: usize, b: IndexBox, v: f64)
+    requires { ⌜ at + ny * nx ≤ length (now s) ⌝ }
+    ensures { λ _. ⌜ now (s .exit) ≡ on at (ny * nx) (setPlane nx ny b v) (now (s .entry)) ⌝ }
+{
+    let end = span_end(b.j0, b.j1, ny);
+    let mut j = b.j0;
+    while j < end {
+        fill_row(s, at + j * nx, nx, b.i0, b.i1, v);
+        j += 1;
+    }
+}
+
+pub fn fill_box(s: &mut [f64], at: usize, nx: usize, ny: usize, nz: usize, b: IndexBox, v: f64)
+    requires { ⌜ (at + nz * (ny * nx) ≤ length (now s)) × (ny * nx ≤ 262144) ⌝ }
+    ensures { λ _. ⌜ now (s .exit) ≡ on at (nz * (ny * nx)) (setBox nx ny nz b v) (now (s .entry)) ⌝ }
+{
+    let plane = ny * nx;
+    let end = span_end(b.k0, b.k1, nz);
+    let mut k = b.k0;
+    while k < end {
+        fill_plane(s, at + k * plane, nx, ny, b, v);
+        k += 1;
+    }
+}
+
+// ---- the same of ids
+
+fn fill_row_ids(s: &mut [u32], at: usize, nx: usize, i0: usize, i1: usize, v: u32)
+    requires { ⌜ at + nx ≤ length (now s) ⌝ }
+    ensures { λ _. ⌜ now (s .exit) ≡ on at nx (setRow nx i0 i1 v) (now (s .entry)) ⌝ }
+{
+    let end = span_end(i0, i1, nx);
+    let mut i = i0;
+    while i < end {
+        s[at + i] = v;
+        i += 1;
+    }
+}
+
+fn fill_plane_ids(s: &mut [u32], at: usize, nx: usize, ny: usize, b: IndexBox, v: u32)
+    requires { ⌜ at + ny * nx ≤ length (now s) ⌝ }
+    ensures { λ _. ⌜ now (s .exit) ≡ on at (ny * nx) (setPlane nx ny b v) (now (s .entry)) ⌝ }
+{
+    let end = span_end(b.j0, b.j1, ny);
+    let mut j = b.j0;
+    while j < end {
+        fill_row_ids(s, at + j * nx, nx, b.i0, b.i1, v);
+        j += 1;
+    }
+}
+
+pub fn fill_box_ids(s: &mut [u32], at: usize, nx: usize, ny: usize, nz: usize, b: IndexBox, v: u32)
+    requires { ⌜ (at + nz * (ny * nx) ≤ length (now s)) × (ny * nx ≤ 262144) ⌝ }
+    ensures { λ _. ⌜ now (s .exit) ≡ on at (nz * (ny * nx)) (setBox nx ny nz b v) (now (s .entry)) ⌝ }
+{
+    let plane = ny * nx;
+    let end = span_end(b.k0, b.k1, nz);
+    let mut k = b.k0;
+    while k < end {
+        fill_plane_ids(s, at + k * plane, nx, ny, b, v);
+        k += 1;
+    }
+}

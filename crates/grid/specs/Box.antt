@@ -1,9 +1,0 @@
--- A box of cells by half-open ranges of indices. Definitions only.
-use Prim.Native.Nat.{ℕ}
-use mathlib.Core.Bool.{Bool, _&&_}
-use Rattle.grid.specs.declared.IndexBox.{IndexBox}
-use Rattle.grid.specs.Blocks.{within}
-
--- An upper end past the grid takes in no cell that is not there, and an empty or backward range none at all.
-unfoldable pub inBox : IndexBox → (i j k : ℕ) → Bool
-inBox b i j k = within (b .k0) (b .k1) k && within (b .j0) (b .j1) j && within (b .i0) (b .i1) i

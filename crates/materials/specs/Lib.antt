@@ -1,0 +1,2 @@
+-- What the contracts of materials cite.
+pub mod Materials

@@ -1,0 +1,104 @@
+-- The calls that place and register materials. Definitions only.
+use Prim.Native.Nat.{ℕ, zero, suc, _+_, _*_}
+use mathlib.Core.Bool.{Bool, false, cond, _&&_, _||_}
+use mathlib.Core.List.{List}
+use lib.Dec.{ltb, eqb}
+use lib.ListN.{length, getD}
+use lib.Ieee.{Float, nan}
+use Rattle.dispersion.specs.declared.DispersiveMaterial.{DispersiveMaterial}
+use Rattle.grid.specs.declared.Record.{Record}
+use Rattle.cells.specs.declared.IndexBox.{IndexBox}
+use Rattle.cells.specs.Box.{inBox}
+use Rattle.cells.specs.Cells.{cellwise, cellIndex, components}
+use Rattle.grid.specs.Fault.{beyond, first, poleCount}
+use Rattle.grid.specs.Opening.{zeros}
+use Rattle.grid.specs.Stores.{cells, storeLengths, orElse, faultLent, Outcome, settle}
+
+-- eps_r, mu_r, sigma by their place in the store
+abbrev pub three : Float → Float → Float → ℕ → Float
+three eps mu sigma c = cond (eqb c 0) eps (cond (eqb c 1) mu sigma)
+
+-- the cell numbers with v in each cell of the box; every other number stands
+unfoldable pub mediaSet : (nx ny nz : ℕ) → IndexBox → (ℕ → Float) → List Float → List Float
+mediaSet nx ny nz b v old =
+    components 3 nx ny nz (λ c i j k. cond (inBox b i j k) (v c) (getD old (c * (nx * ny * nz) + cellIndex nx ny i j k) nan))
+
+-- the ids with `id` in each cell of the box
+unfoldable pub idsSet : (nx ny nz : ℕ) → IndexBox → ℕ → List ℕ → List ℕ
+idsSet nx ny nz b id old = cellwise nx ny nz (λ i j k. cond (inBox b i j k) id (getD old (cellIndex nx ny i j k) 0))
+
+-- ---- set_material: three numbers, the ids are left
+unfoldable pub mediaFault : Record → ℕ → ℕ
+mediaFault r n = faultLent r (eqb n (storeLengths r .media))
+
+unfoldable pub setMaterialCall : Record → IndexBox → (eps mu sigma : Float) → List Float → Outcome (List Float)
+setMaterialCall r b eps mu sigma media =
+    settle (mediaFault r (length media)) r media r (mediaSet (r .nx) (r .ny) (r .nz) b (three eps mu sigma) media)
+
+-- ---- assign_material_box: a registered material's numbers and its id; 7 NoSuchMaterial even where the box is empty
+abbrev pub noSuchMaterial : ℕ
+noSuchMaterial = 7
+
+pub record Placed : Type 0 where
+  pub media : List Float
+  pub ids : List ℕ
+
+abbrev pub placed : List Float → List ℕ → Placed
+placed m i = record { media = m; ids = i }
+
+unfoldable pub placingFault : Record → (media ids : ℕ) → ℕ
+placingFault r media ids = faultLent r (eqb media (storeLengths r .media) && eqb ids (storeLengths r .ids))
+
+unfoldable pub assignFault : Record → (media ids id : ℕ) → ℕ
+assignFault r media ids id = orElse (placingFault r media ids) (first (ltb id (r .«material_count»)) noSuchMaterial 0)
+
+abbrev pub materialAt : Record → ℕ → DispersiveMaterial
+materialAt r id = getD (r .materials) id beyond
+
+unfoldable pub assigned : Record → IndexBox → ℕ → Placed → Placed
+assigned r b id s =
+    let m = materialAt r id in
+    placed (mediaSet (r .nx) (r .ny) (r .nz) b (three (m .«eps_inf») (m .«mu_r») (m .sigma)) (s .media)) (idsSet (r .nx) (r .ny) (r .nz) b id (s .ids))
+
+unfoldable pub assignBoxCall : Record → ℕ → IndexBox → Placed → Outcome Placed
+assignBoxCall r id b s = settle (assignFault r (length (s .media)) (length (s .ids)) id) r s r (assigned r b id s)
+
+-- ---- assign_material_halfspace_z: the box of all cells from plane k0 on
+abbrev pub halfspace : Record → ℕ → IndexBox
+halfspace r k0 = record { i0 = 0; i1 = r .nx; j0 = 0; j1 = r .ny; k0 = k0; k1 = r .nz }
+
+-- ---- build_dispersion: the built count is the present material count, or 0 where no material has a pole; poles and dp are cleared
+-- f of some number below n
+unfoldable pub anyBelow : (ℕ → Bool) → ℕ → Bool
+anyBelow f zero = false
+anyBelow f (suc n) = anyBelow f n || f n
+
+unfoldable pub anyPole : Record → Bool
+anyPole r = anyBelow (λ i. ltb 0 (poleCount r i)) (r .«material_count»)
+
+unfoldable pub builtOf : Record → ℕ
+builtOf r = cond (anyPole r) (r .«material_count») 0
+
+unfoldable pub withBuilt : Record → ℕ → Record
+withBuilt r n = record {
+  nx = r .nx;
+  ny = r .ny;
+  nz = r .nz;
+  «pole_slots» = r .«pole_slots»;
+  spacings = r .spacings;
+  periodic = r .periodic;
+  active = r .active;
+  «layer_on» = r .«layer_on»;
+  materials = r .materials;
+  «material_count» = r .«material_count»;
+  «built_count» = n;
+  region = r .region;
+  clock = r .clock;
+}
+
+unfoldable pub polesFault : Record → ℕ → ℕ
+polesFault r n = faultLent r (eqb n (storeLengths r .poles))
+
+unfoldable pub buildCall : Record → List Float → Outcome (List Float)
+buildCall r poles =
+    settle (polesFault r (length poles)) r poles (withBuilt r (builtOf r)) (zeros (length poles))

@@ -1,7 +1,7 @@
 -- A pole as C hands it over: a tag (document 01, "The save": 1 Lorentz, 2 Drude, 3 Debye) and three numbers in the Rust's field order, of which Drude
 -- and Debye have two. Definitions only.
 use Prim.Native.Nat.{ℕ}
-use mathlib.Core.Bool.{Bool, true, false, cond, _&&_}
+use mathlib.Core.Bool.{Bool, true, false, _&&_}
 use mathlib.Core.List.{List, [], _∷_}
 use lib.Dec.{leb, eqb}
 use lib.ListN.{length}
@@ -9,7 +9,6 @@ use lib.Ieee.{Float}
 use Rattle.dispersion.specs.declared.AdeCoeffs.{AdeCoeffs}
 use Rattle.dispersion.specs.declared.Pole.{Pole}
 use Rattle.dispersion.specs.declared.Pole.the-variants.{Lorentz, Drude, Debye}
-use Rattle.dispersion.specs.Ade.{adeCoeffs}
 
 abbrev pub pick : Bool → Pole → Pole → Pole
 pick true p q = p

@@ -1,18 +1,16 @@
 -- Lists made of blocks of one length, for any element type: their lengths, their elements, and one block replaced. Assumes nothing.
 use Prim.Native.Nat.{ℕ, zero, suc, _+_, _*_, _≤_, _<_}
-use native.Mathlib.Nat.{suc-mul, zero-mul, mul-one, eq-or-lt-of-le, le-of-suc-le-suc, not-suc-le-zero, add-assoc, add-zero, mul-comm, mul-le-mul-right, add-mul, one-mul}
+use native.Mathlib.Nat.{suc-mul, zero-mul, mul-one, eq-or-lt-of-le, le-of-suc-le-suc, not-suc-le-zero, add-zero, mul-le-mul-right, add-mul, one-mul}
 use native.Mathlib.Omega.{arith}
 use mathlib.Core.Path.{_≡_, refl, sym, ap, _∙_, subst}
 use mathlib.Core.Logic.{⊎-elim}
-use mathlib.Core.Bool.{Bool, true, false, cond, _&&_}
-use mathlib.Core.List.{List, [], _∷_, _++_, append-assoc, append-nil}
-use lib.Dec.{leb, ltb}
-use lib.ListN.{length, take, drop, getD, length-append, length-drop}
-use lib.Seq.{take-at, drop-at, take-all, take-add, take-append-le, drop-append-le, take-append-seam, drop-append-seam, drop-append-add, drop-drop, length-take-le}
+use mathlib.Core.List.{List, [], _∷_, _++_, append-assoc}
+use lib.ListN.{length, take, drop, length-append, length-drop}
+use lib.Seq.{drop-at, take-all, take-add, take-append-le, drop-append-le, take-append-seam, drop-append-seam, drop-append-add, drop-drop, length-take-le}
 use Rattle.codec.specs.Lists.{put, part}
-use Rattle.codec.proofs.Lists.{put-nil, put-whole, put-length, drop-put}
-use Rattle.cells.specs.Cells.{joined, row, cellwise, cellIndex}
-use Rattle.cells.specs.Blocks.{on, within, inBlocks}
+use Rattle.codec.proofs.Lists.{put-whole, put-length, drop-put}
+use Rattle.cells.specs.Cells.{joined, row, cellwise}
+use Rattle.cells.specs.Blocks.{on}
 
 -- equal blocks make equal lists
 pub joined-same : {A : Type 0} (n : ℕ) (g h : ℕ → List A) → ((c : ℕ) → c < n → g c ≡ h c) → joined n g ≡ joined n h

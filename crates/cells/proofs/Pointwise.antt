@@ -1,12 +1,12 @@
 -- A box of cells set to one value, said of each cell: the nested loops over planes, rows and cells against `cellwise`. For any element type. Assumes nothing.
 use Prim.Native.Nat.{ℕ, zero, suc, _+_, _*_, _≤_, _<_}
-use native.Mathlib.Nat.{mul-one, mul-comm, add-assoc}
+use native.Mathlib.Nat.{mul-one, mul-comm}
 use native.Mathlib.Omega.{arith}
 use mathlib.Core.Path.{_≡_, refl, sym, ap, _∙_}
 use mathlib.Core.Bool.{Bool, true, false, cond, _&&_}
 use mathlib.Core.List.{List, [], _∷_, _++_}
-use lib.ListN.{length, take, drop, getD, length-drop}
-use lib.Seq.{take-suc, drop-cons, getD-take, getD-drop}
+use lib.ListN.{length, drop, getD, length-drop}
+use lib.Seq.{take-suc, getD-take, getD-drop}
 use Rattle.codec.specs.Lists.{part}
 use Rattle.codec.proofs.Lists.{part-length, part-one}
 use Rattle.cells.specs.Cells.{joined, row, cellwise, cellIndex}

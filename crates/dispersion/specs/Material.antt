@@ -1,7 +1,6 @@
 -- A material: what it answers at once, and its poles. Definitions only.
-use Prim.Native.Nat.{ℕ, _+_}
-use mathlib.Core.Bool.{Bool, true, false, cond}
-use mathlib.Core.List.{List}
+use Prim.Native.Nat.{_+_}
+use mathlib.Core.Bool.{cond}
 use lib.Dec.{ltb}
 use lib.ListN.{replicate, set}
 use lib.Ieee.{Float}
@@ -9,7 +8,7 @@ use Rattle.root.specs.Rounded.{zeroF, oneF}
 use Rattle.dispersion.specs.declared.DispersiveMaterial.{DispersiveMaterial}
 use Rattle.dispersion.specs.declared.PoleSlot.{PoleSlot}
 use Rattle.dispersion.specs.declared.Pole.{Pole}
-use Rattle.dispersion.specs.declared.Pole.the-variants.{Lorentz, Drude, Debye}
+use Rattle.dispersion.specs.declared.Pole.the-variants.{Debye}
 
 -- what stands in a place that no pole is counted in
 abbrev pub blankSlot : PoleSlot

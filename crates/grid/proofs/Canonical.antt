@@ -1,13 +1,13 @@
 -- The canon of a record: taking it twice changes nothing, an opened record is its own, and it has the faults that the record has. Assumes nothing.
-use Prim.Native.Nat.{ℕ, zero, suc, _+_, _<_, _≤_}
+use Prim.Native.Nat.{ℕ, zero, suc, _<_}
 use native.Mathlib.Nat.{not-suc-le-zero, le-of-suc-le-suc}
 use native.Mathlib.Omega.{arith}
-use mathlib.Core.Path.{_≡_, refl, sym, ap, _∙_}
-use mathlib.Core.Bool.{Bool, true, false, _&&_, and-false}
+use mathlib.Core.Path.{_≡_, refl, ap}
+use mathlib.Core.Bool.{Bool, true, false, and-false}
 use mathlib.Core.List.{List, [], _∷_, map}
 use borrow.Author.Tests.{leb-true}
 use lib.Dec.{leb}
-use lib.ListN.{length, getD}
+use lib.ListN.{getD}
 use Rattle.root.specs.declared.Spacings.{Spacings}
 use Rattle.dispersion.specs.declared.DispersiveMaterial.{DispersiveMaterial}
 use Rattle.dispersion.specs.Material.{blankSlot, vacuumMaterial}
@@ -16,7 +16,7 @@ use Rattle.grid.specs.declared.RegionKind.the-variants.{Absent, SlabZ, I
 use Rattle.grid.specs.declared.Region.{Region}
 use Rattle.grid.specs.declared.Record.{Record}
 use Rattle.grid.specs.Canon.{keepFirst, canonMaterial, regionBy, canonRegion, canon}
-use Rattle.grid.specs.Fault.{beyond, poleCount, isAbsent, allBelow, countsFit, polesFit, cornersFit, regionFits, studyFits, first, faultOf}
+use Rattle.grid.specs.Fault.{beyond, poleCount, allBelow, countsFit, polesFit, regionFits, studyFits, faultOf}
 use Rattle.grid.specs.Opening.{openRecord}
 
 -- ---- twice

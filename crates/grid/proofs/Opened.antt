@@ -1,5 +1,5 @@
 -- Stores as they are opened, written part by part. Assumes nothing.
-use mathlib.Core.Path.{_≡_, refl, sym, ap, _∙_}
+use mathlib.Core.Path.{_≡_, sym, ap, _∙_}
 use mathlib.Core.List.{List, _++_}
 use Prim.Native.Nat.{ℕ, _+_, _*_, _≤_}
 use native.Mathlib.Nat.{zero-add}
@@ -8,7 +8,7 @@ use lib.ListN.{length, replicate, length-append, length-replicate}
 use lib.Ieee.{Float}
 use Rattle.root.specs.Rounded.{zeroF, oneF}
 use Rattle.codec.specs.Lists.{put}
-use Rattle.codec.proofs.Lists.{put-length, put-next, put-whole}
+use Rattle.codec.proofs.Lists.{put-next, put-whole}
 use Rattle.grid.specs.Opening.{zeros, openMedia, inactive, openTables}
 
 -- one part after another from the front

@@ -1,6 +1,6 @@
 -- A study as it is opened (document 01: "Opening as `new_rect`"). Definitions only.
 use Prim.Native.Nat.{ℕ, _+_, _*_}
-use mathlib.Core.Bool.{true, false}
+use mathlib.Core.Bool.{false}
 use mathlib.Core.List.{List, [], _∷_, _++_}
 use lib.ListN.{replicate}
 use lib.Ieee.{Float}
@@ -8,7 +8,6 @@ use Rattle.root.specs.Rounded.{zeroF, oneF}
 use Rattle.root.specs.declared.Spacings.{Spacings}
 use Rattle.dispersion.specs.Material.{vacuumMaterial}
 use Rattle.grid.specs.declared.Record.{Record}
-use Rattle.grid.specs.declared.stores.Lengths.{Lengths}
 use Rattle.grid.specs.Canon.{absentRegion}
 use Rattle.grid.specs.Stores.{Stores, Outcome, settle, stores, cells, storeLengths, lengthsOf, faultWith}
 

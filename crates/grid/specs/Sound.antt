@@ -1,6 +1,6 @@
 -- What a record without fault meets, as inequalities that `omega` reads wherever a `requires` has them. A product of sizes is one unknown to it, so each
 -- product that code forms has its bound here.
-use Prim.Native.Nat.{ℕ, _+_, _*_, _≤_}
+use Prim.Native.Nat.{_+_, _*_, _≤_}
 use Rattle.grid.specs.declared.Record.{Record}
 
 pub record Sound (r : Record) : Type 0 where

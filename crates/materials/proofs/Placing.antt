@@ -2,7 +2,7 @@
 use Prim.Native.Nat.{ℕ, _+_, _*_, _≤_, _<_}
 use native.Mathlib.Nat.{zero-mul, one-mul, mul-comm}
 use native.Mathlib.Omega.{arith}
-use mathlib.Core.Path.{_≡_, refl, sym, ap, _∙_}
+use mathlib.Core.Path.{_≡_, sym, ap, _∙_}
 use mathlib.Core.Bool.{cond}
 use mathlib.Core.List.{List}
 use lib.ListN.{length, getD}
@@ -13,7 +13,7 @@ use lib.Dec.{ltb, eqb}
 use Rattle.codec.specs.Lists.{put, part}
 use Rattle.codec.proofs.Lists.{put-whole, part-length}
 use Rattle.cells.specs.declared.IndexBox.{IndexBox}
-use Rattle.cells.specs.Cells.{joined, cellwise, cellIndex, components}
+use Rattle.cells.specs.Cells.{cellwise, cellIndex, components}
 use Rattle.cells.specs.Blocks.{on, within, inBlocks, setBox}
 use Rattle.cells.specs.Box.{inBox}
 use Rattle.materials.specs.Materials.{three, mediaSet, idsSet, mediaFault, placingFault, assignFault, Placed, placed, materialAt, assigned}

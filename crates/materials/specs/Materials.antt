@@ -12,7 +12,7 @@ use Rattle.cells.specs.Box.{inBox}
 use Rattle.cells.specs.Cells.{cellwise, cellIndex, components}
 use Rattle.grid.specs.Fault.{beyond, first, poleCount}
 use Rattle.grid.specs.Opening.{zeros}
-use Rattle.grid.specs.Stores.{cells, storeLengths, orElse, faultLent, Outcome, settle}
+use Rattle.grid.specs.Stores.{storeLengths, orElse, faultLent, Outcome, settle}
 
 -- eps_r, mu_r, sigma by their place in the store
 abbrev pub three : Float → Float → Float → ℕ → Float

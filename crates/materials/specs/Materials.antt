@@ -1,4 +1,4 @@
--- The calls that place and register materials. Definitions only.
+-- The calls that place materials in cells and build their dispersion. Definitions only.
 use Prim.Native.Nat.{ℕ, zero, suc, _+_, _*_}
 use mathlib.Core.Bool.{Bool, false, cond, _&&_, _||_}
 use mathlib.Core.List.{List}

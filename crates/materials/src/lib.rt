@@ -1,4 +1,4 @@
-// Materials placed in boxes of cells, registered, and built.
+// Materials placed in boxes of cells, and built.
 ghost use mathlib.Core.Path.{_≡_};
 ghost use Prim.Native.Nat.{_*_, _≤_};
 ghost use lib.ListN.{length};

@@ -4,7 +4,9 @@ ghost use Rattle.root.specs.Root.{Rooted};
 ghost use Rattle.root.specs.Constants as vacuum;
 ghost use Rattle.root.specs.Courant.{courantNumber, courantLimit, stable};
 ghost use Rattle.dispersion.specs.Ade.{adeCoeffs};
+ghost use Rattle.boundary.specs.Lossy.{power, wallSigma, stronger};
 ghost use Rattle.api.specs.Poles.{poleOf, taken, coeffsOr};
+use boundary::lossy;
 use dispersion::Pole;
 use root::Spacings;
 
@@ -107,4 +109,29 @@ pub extern "C" fn cichowiej_ade_coeffs(
     out[1] = c.a2;
     out[2] = c.a3;
     true
+}
+
+// ---- the lossy edge's conductivity
+
+#[no_mangle]
+pub extern "C" fn cichowiej_powi(u: f64, n: usize) -> f64
+    ensures { λ r. ⌜ r ≡ power u n ⌝ }
+{
+    lossy::powi(u, n)
+}
+
+// At d cells from a wall whose layer is t cells thick.
+#[no_mangle]
+pub extern "C" fn cichowiej_wall_sigma(t: usize, order: usize, sigma_max: f64, d: usize) -> f64
+    ensures { λ r. ⌜ r ≡ wallSigma t order «sigma_max» d ⌝ }
+{
+    lossy::wall_sigma(t, order, sigma_max, d)
+}
+
+// s, unless v is larger.
+#[no_mangle]
+pub extern "C" fn cichowiej_stronger(s: f64, v: f64) -> f64
+    ensures { λ r. ⌜ r ≡ stronger s v ⌝ }
+{
+    lossy::stronger_of(s, v)
 }

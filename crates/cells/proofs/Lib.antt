@@ -2,3 +2,4 @@
 pub mod Blocks
 pub mod Sweeps
 pub mod Pointwise
+pub mod Written

@@ -1,4 +1,4 @@
--- The canon of a record: taking it twice changes nothing, an opened record is its own, and it has the faults that the record has. Assumes nothing.
+-- The canon of a record: taking it twice changes nothing, and it has the faults that the record has. Assumes nothing.
 use Prim.Native.Nat.{ℕ, zero, suc, _<_}
 use native.Mathlib.Nat.{not-suc-le-zero, le-of-suc-le-suc}
 use native.Mathlib.Omega.{arith}
@@ -8,7 +8,6 @@ use mathlib.Core.List.{List, [], _∷_, map}
 use borrow.Author.Tests.{leb-true}
 use lib.Dec.{leb}
 use lib.ListN.{getD}
-use Rattle.root.specs.declared.Spacings.{Spacings}
 use Rattle.dispersion.specs.declared.DispersiveMaterial.{DispersiveMaterial}
 use Rattle.dispersion.specs.Material.{blankSlot, vacuumMaterial}
 use Rattle.grid.specs.declared.RegionKind.{RegionKind}
@@ -17,7 +16,6 @@ use Rattle.grid.specs.declared.Region.{Region}
 use Rattle.grid.specs.declared.Record.{Record}
 use Rattle.grid.specs.Canon.{keepFirst, canonMaterial, regionBy, canonRegion, canon}
 use Rattle.grid.specs.Fault.{beyond, poleCount, allBelow, countsFit, polesFit, regionFits, studyFits, faultOf}
-use Rattle.grid.specs.Opening.{openRecord}
 
 -- ---- twice
 keep-twice : {A : Type 0} (n : ℕ) (d : A) (l : List A) → keepFirst n d (keepFirst n d l) ≡ keepFirst n d l
@@ -54,11 +52,6 @@ region-twice r = region-kind (r .kind) r refl
 pub canon-twice : (r : Record) → canon (canon r) ≡ canon r
 unfolding canon
 canon-twice r = rw (materials-twice (r .«material_count») (r .materials), region-twice (r .region))
-
--- ---- opening
-pub open-canon : (nx ny nz slots : ℕ) (s : Spacings) → canon (openRecord nx ny nz slots s) ≡ openRecord nx ny nz slots s
-unfolding canon keepFirst canonMaterial canonRegion
-open-canon nx ny nz slots s = refl
 
 -- ---- faults
 kept-count : (n i : ℕ) (l : List DispersiveMaterial) → i < n →

@@ -2,6 +2,5 @@
 pub mod Tests
 pub mod Judging
 pub mod Filling
-pub mod Opened
 pub mod Settled
 pub mod Canonical

@@ -1,18 +1,15 @@
 -- A call's two ends, refused and accepted, and what is known where none of the four first faults stands. Assumes nothing.
 use Prim.Native.Nat.{ℕ, zero, suc}
 use native.Mathlib.Omega.{arith}
-use mathlib.Core.Path.{_≡_, ap, _∙_}
+use mathlib.Core.Path.{_≡_, refl, ap, _∙_}
 use mathlib.Core.Bool.{Bool, true, _&&_}
-use mathlib.Core.List.{List}
-use lib.ListN.{length, replicate}
-use lib.Ieee.{Float}
 use borrow.Author.Tests.{eqb-true}
 use Rattle.grid.specs.declared.Record.{Record}
 use Rattle.grid.specs.declared.stores.Lengths.{Lengths}
+use Rattle.grid.specs.declared.stores.Judged.{Judged}
 use Rattle.grid.specs.Fault.{faultOf}
 use Rattle.grid.specs.Sound.{Sound}
-use Rattle.grid.specs.Stores.{Stores, stores, outcome, settle, cells, storeLengths, lengthsOf, sameLengths, faultLent, faultWith}
-use Rattle.grid.specs.Opening.{zeros, openMedia, openTables, openStores}
+use Rattle.grid.specs.Stores.{outcome, settle, storeLengths, sameLengths, lentFault, noLengths, judgedBy, judged, faultLent, faultWith}
 use Rattle.grid.proofs.Tests.{and-left, and-right, first-none, or-none}
 use Rattle.grid.proofs.Judging.{sound}
 
@@ -57,6 +54,16 @@ same-lengths a b e =
     let same : remade a ≡ remade b = cc in
     same
 
+-- f is the fault that a call finds with its own test of lengths, done on what `judge` answered
+judged-at : (n : ℕ) (r : Record) (test : Lengths → Bool) → lentFault (judgedBy n r .refusal) (test (judgedBy n r .lengths)) ≡ lentFault n (test (storeLengths r))
+judged-at zero r test = refl
+judged-at (suc n) r test = refl
+
+pub judged-fault : (r : Record) (test : Lengths → Bool) (j : Judged) (f : ℕ) → j ≡ judged r → f ≡ lentFault (j .refusal) (test (j .lengths)) →
+    f ≡ faultLent r (test (storeLengths r))
+unfolding judged faultLent
+judged-fault r test j f p q = q ∙ ap (λ (k : Judged). lentFault (k .refusal) (test (k .lengths))) p ∙ judged-at (faultOf r) r test
+
 -- no fault among the first four: the record is sound, and what is lent passed
 pub lent-none : (r : Record) (fits : Bool) → faultLent r fits ≡ 0 → Sound r × (fits ≡ true)
 unfolding faultLent
@@ -71,18 +78,19 @@ with-none r l e =
 pub fault-at : (f : ℕ) (q r : Record) (l : Lengths) → f ≡ faultWith q l → q ≡ r → f ≡ faultWith r l
 fault-at f q r l e h = rw h at e
 
--- nine stores that were written one by one
-pub opened-are : (r : Record) (s : Stores) (e h m pe ph t p a : List Float) (i : List ℕ) → lengthsOf s ≡ storeLengths r →
-    e ≡ zeros (length (s .electric)) → h ≡ zeros (length (s .magnetic)) → m ≡ openMedia (cells r) → pe ≡ zeros (length (s .psiE)) →
-    ph ≡ zeros (length (s .psiH)) → t ≡ openTables (r .nx) (r .ny) (r .nz) → p ≡ zeros (length (s .poles)) → a ≡ zeros (length (s .aux)) →
-    i ≡ replicate (length (s .ids)) 0 → stores e h m pe ph t p a i ≡ openStores r
-unfolding openStores storeLengths
-opened-are r s e h m pe ph t p a i len h0 h1 h2 h3 h4 h5 h6 h7 h8 =
-    let e0 = h0 ∙ ap (λ (l : Lengths). zeros (l .electric)) len in
-    let e1 = h1 ∙ ap (λ (l : Lengths). zeros (l .magnetic)) len in
-    let e3 = h3 ∙ ap (λ (l : Lengths). zeros (l .«psi_e»)) len in
-    let e4 = h4 ∙ ap (λ (l : Lengths). zeros (l .«psi_h»)) len in
-    let e6 = h6 ∙ ap (λ (l : Lengths). zeros (l .poles)) len in
-    let e7 = h7 ∙ ap (λ (l : Lengths). zeros (l .aux)) len in
-    let e8 = h8 ∙ ap (λ (l : Lengths). replicate (l .ids) 0) len in
-    rw (e0, e1, h2, e3, e4, h5, e6, e7, e8)
+-- a record judged: at fault, or not
+pub judged-ill : (r : Record) (f : ℕ) → f ≡ faultOf r → (f ≡ 0 → ⊥) → record { refusal = f; lengths = noLengths } ≡ judged r
+unfolding judged
+judged-ill r f e h = ill f (faultOf r) e h
+  where
+    ill : (f n : ℕ) → f ≡ n → (f ≡ 0 → ⊥) → record { refusal = f; lengths = noLengths } ≡ judgedBy n r
+    ill f zero e h = absurd (h e)
+    ill f (suc n) e h = rw e
+
+pub judged-well : (r : Record) (f : ℕ) (l : Lengths) → f ≡ faultOf r → f ≡ 0 → l ≡ storeLengths r → record { refusal = 0; lengths = l } ≡ judged r
+unfolding judged
+judged-well r f l e h q = well f (faultOf r) e h
+  where
+    well : (f n : ℕ) → f ≡ n → f ≡ 0 → record { refusal = 0; lengths = l } ≡ judgedBy n r
+    well f zero e h = rw q
+    well f (suc n) e h = absurd (let z : ⊥ = omega arith in z)

@@ -3,5 +3,5 @@ pub mod Limits
 pub mod Fault
 pub mod Sound
 pub mod Stores
+pub mod Edited
 pub mod Canon
-pub mod Opening

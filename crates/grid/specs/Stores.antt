@@ -3,10 +3,12 @@ use Prim.Native.Nat.{ℕ, zero, suc, _+_, _*_}
 use mathlib.Core.Bool.{Bool, _&&_}
 use mathlib.Core.List.{List}
 use lib.Dec.{eqb}
-use lib.ListN.{length}
+use lib.ListN.{length, replicate}
 use lib.Ieee.{Float}
+use Rattle.root.specs.Rounded.{zeroF}
 use Rattle.grid.specs.declared.Record.{Record}
 use Rattle.grid.specs.declared.stores.Lengths.{Lengths}
+use Rattle.grid.specs.declared.stores.Judged.{Judged}
 use Rattle.grid.specs.Fault.{faultOf, first}
 
 -- electric: ex, ey, ez. magnetic: hx, hy, hz. media, the cell numbers: eps_r, mu_r, sigma. psiE, psiH: the layer's memories in the order of `Psi`.
@@ -27,6 +29,10 @@ pub record Stores : Type 0 where
 abbrev pub stores : (electric magnetic media psiE psiH tables poles aux : List Float) → List ℕ → Stores
 stores e h m pe ph t p a i =
     record { electric = e; magnetic = h; media = m; psiE = pe; psiH = ph; tables = t; poles = p; aux = a; ids = i }
+
+-- n numbers +0.0
+abbrev pub zeros : ℕ → List Float
+zeros n = replicate n zeroF
 
 -- N
 abbrev pub cells : Record → ℕ
@@ -78,24 +84,39 @@ abbrev pub orElse : ℕ → ℕ → ℕ
 orElse zero n = n
 orElse (suc m) n = suc m
 
--- the four faults that come first in every call: 1 to 3 of the record, then 4 unless what is lent has the right lengths
+-- a fault f of the record itself, then 4 unless what is lent has the right lengths
+abbrev pub lentFault : ℕ → Bool → ℕ
+lentFault f fits = orElse f (first fits badStore 0)
+
+-- the four faults that come first in every call
 unfoldable pub faultLent : Record → Bool → ℕ
-faultLent r fits = orElse (faultOf r) (first fits badStore 0)
+faultLent r fits = lentFault (faultOf r) fits
+
+-- a record judged once for a call: its own fault and, where it has none, how long each store has to be
+abbrev pub noLengths : Lengths
+noLengths = record { electric = 0; magnetic = 0; media = 0; «psi_e» = 0; «psi_h» = 0; tables = 0; poles = 0; aux = 0; ids = 0 }
+
+abbrev pub judgedBy : ℕ → Record → Judged
+judgedBy zero r = record { refusal = 0; lengths = storeLengths r }
+judgedBy (suc n) r = record { refusal = suc n; lengths = noLengths }
+
+unfoldable pub judged : Record → Judged
+judged r = judgedBy (faultOf r) r
 
 -- the same where all nine are lent
 abbrev pub faultWith : Record → Lengths → ℕ
 faultWith r l = faultLent r (sameLengths l (storeLengths r))
 
--- what a call on a study record comes to: the refusal's number or 0, the record, and the stores that it was lent
+-- what a call on a study record comes to: the refusal's number or 0, the record, and the rest: the stores that it was lent, its further answers
 pub record Outcome (A : Type 0) : Type 0 where
   pub refusal : ℕ
   pub study : Record
-  pub lent : A
+  pub rest : A
 
 abbrev pub outcome : {A : Type 0} → ℕ → Record → A → Outcome A
-outcome n r s = record { refusal = n; study = r; lent = s }
+outcome n r s = record { refusal = n; study = r; rest = s }
 
--- refused: all as it was; accepted: the new record and stores
+-- refused: all as it was, and the further answers nought; accepted: the new record and the new rest
 abbrev pub settle : {A : Type 0} → ℕ → Record → A → Record → A → Outcome A
 settle zero r s r' s' = outcome 0 r' s'
 settle (suc n) r s r' s' = outcome (suc n) r s

@@ -1,6 +1,5 @@
-// The study record, its nine stores, the four refusals that come first in every call, and opening.
+// The study record, its nine stores, and the four refusals that come first in every call.
 pub mod fault;
-pub mod opening;
 pub mod stores;
 
 use dispersion::DispersiveMaterial;

@@ -5,7 +5,7 @@ ghost use lib.ListN.{length, replicate};
 ghost use Rattle.codec.specs.Lists.{put};
 ghost use Rattle.root.specs.Rounded.{zeroF};
 ghost use Rattle.grid.specs.Sound.{Sound};
-ghost use Rattle.grid.specs.Stores.{storeLengths, sameLengths, faultWith};
+ghost use Rattle.grid.specs.Stores.{storeLengths, sameLengths, orElse, lentFault, judged, faultWith};
 use crate::Record;
 use crate::fault;
 
@@ -58,15 +58,63 @@ fn same_lengths(a: Lengths, b: Lengths) -> bool
         & (a.ids == b.ids)
 }
 
-// Refusals 1 to 3 of the record, then 4 by the lengths of what was lent.
-pub fn fault_with(r: Record, l: Lengths) -> u32
-    ensures { λ n. ⌜ n ≡ faultWith r l ⌝ }
+// What a call asks of its record first: the record's own refusal and, where that is 0, how long each store has to be.
+pub struct Judged {
+    pub refusal: u32,
+    pub lengths: Lengths,
+}
+
+pub fn judge(r: Record) -> Judged
+    ensures { λ j. ⌜ j ≡ judged r ⌝ }
 {
     let f = fault::fault_of(r);
     if f != 0 {
+        let none = Lengths {
+            electric: 0,
+            magnetic: 0,
+            media: 0,
+            psi_e: 0,
+            psi_h: 0,
+            tables: 0,
+            poles: 0,
+            aux: 0,
+            ids: 0,
+        };
+        return Judged {
+            refusal: f,
+            lengths: none,
+        };
+    }
+    Judged {
+        refusal: 0,
+        lengths: store_lengths(r),
+    }
+}
+
+// The earlier fault where there is one, and else the later.
+pub fn or_else(f: u32, later: u32) -> u32
+    ensures { λ n. ⌜ n ≡ orElse f later ⌝ }
+{
+    if f != 0 {
         return f;
     }
-    fault::first_fault(same_lengths(l, store_lengths(r)), BAD_STORE, 0)
+    later
+}
+
+// The record's own refusal f, then 4 unless what is lent has the right lengths.
+pub fn lent_fault(f: u32, fits: bool) -> u32
+    ensures { λ n. ⌜ n ≡ lentFault f fits ⌝ }
+{
+    or_else(f, fault::first_fault(fits, BAD_STORE, 0))
+}
+
+// Refusals 1 to 3 of the record, then 4 by the lengths of all nine stores.
+pub fn fault_with(r: Record, l: Lengths) -> u32
+    ensures { λ n. ⌜ n ≡ faultWith r l ⌝ }
+{
+    let j = judge(r);
+    let expected = j.lengths;
+    lent_fault(j.refusal, same_lengths(l, expected))
 }
 
 // v from at on, n times.

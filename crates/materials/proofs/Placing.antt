@@ -16,7 +16,7 @@ use Rattle.cells.specs.declared.IndexBox.{IndexBox}
 use Rattle.cells.specs.Cells.{cellwise, cellIndex, components}
 use Rattle.cells.specs.Blocks.{on, within, inBlocks, setBox}
 use Rattle.cells.specs.Box.{inBox}
-use Rattle.materials.specs.Materials.{three, mediaSet, idsSet, mediaFault, placingFault, assignFault, Placed, placed, materialAt, assigned}
+use Rattle.materials.specs.Materials.{three, mediaSet, idsSet, mediaFault, assignFault, Placed, placed, materialAt, assigned}
 use Rattle.grid.specs.declared.Record.{Record}
 use Rattle.grid.specs.Sound.{Sound}
 use Rattle.grid.specs.Stores.{storeLengths}
@@ -116,7 +116,7 @@ pub record Placeable (r : Record) (media ids id : ℕ) : Type 0 where
   pub known : id < 16
 
 pub assign-none : (r : Record) (media ids id : ℕ) → assignFault r media ids id ≡ 0 → Placeable r media ids id
-unfolding assignFault placingFault storeLengths
+unfolding assignFault storeLengths
 assign-none r media ids id e =
     let h = or-none _ _ e in
     let l = lent-none r _ (h .0) in

@@ -1,18 +1,20 @@
--- The calls that place materials in cells and build their dispersion. Definitions only.
+-- The calls that add materials, place them in cells and build their dispersion. Definitions only.
 use Prim.Native.Nat.{ℕ, zero, suc, _+_, _*_}
 use mathlib.Core.Bool.{Bool, false, cond, _&&_, _||_}
 use mathlib.Core.List.{List}
-use lib.Dec.{ltb, eqb}
-use lib.ListN.{length, getD}
+use lib.Dec.{leb, ltb, eqb}
+use lib.ListN.{length, getD, set}
 use lib.Ieee.{Float, nan}
 use Rattle.dispersion.specs.declared.DispersiveMaterial.{DispersiveMaterial}
 use Rattle.grid.specs.declared.Record.{Record}
 use Rattle.cells.specs.declared.IndexBox.{IndexBox}
 use Rattle.cells.specs.Box.{inBox}
 use Rattle.cells.specs.Cells.{cellwise, cellIndex, components}
-use Rattle.grid.specs.Fault.{beyond, first, poleCount}
-use Rattle.grid.specs.Opening.{zeros}
-use Rattle.grid.specs.Stores.{storeLengths, orElse, faultLent, Outcome, settle}
+use Rattle.grid.specs.Limits.{maxMaterials}
+use Rattle.grid.specs.Fault.{beyond, first, poleCount, faultOf}
+use Rattle.grid.specs.Edited.{withMaterials, withBuilt}
+use Rattle.grid.specs.Canon.{canonMaterial}
+use Rattle.grid.specs.Stores.{zeros, storeLengths, orElse, faultLent, Outcome, settle}
 
 -- eps_r, mu_r, sigma by their place in the store
 abbrev pub three : Float → Float → Float → ℕ → Float
@@ -46,11 +48,9 @@ pub record Placed : Type 0 where
 abbrev pub placed : List Float → List ℕ → Placed
 placed m i = record { media = m; ids = i }
 
-unfoldable pub placingFault : Record → (media ids : ℕ) → ℕ
-placingFault r media ids = faultLent r (eqb media (storeLengths r .media) && eqb ids (storeLengths r .ids))
-
 unfoldable pub assignFault : Record → (media ids id : ℕ) → ℕ
-assignFault r media ids id = orElse (placingFault r media ids) (first (ltb id (r .«material_count»)) noSuchMaterial 0)
+assignFault r media ids id =
+    orElse (faultLent r (eqb media (storeLengths r .media) && eqb ids (storeLengths r .ids))) (first (ltb id (r .«material_count»)) noSuchMaterial 0)
 
 abbrev pub materialAt : Record → ℕ → DispersiveMaterial
 materialAt r id = getD (r .materials) id beyond
@@ -79,26 +79,29 @@ anyPole r = anyBelow (λ i. ltb 0 (poleCount r i)) (r .«material_count»)
 unfoldable pub builtOf : Record → ℕ
 builtOf r = cond (anyPole r) (r .«material_count») 0
 
-unfoldable pub withBuilt : Record → ℕ → Record
-withBuilt r n = record {
-  nx = r .nx;
-  ny = r .ny;
-  nz = r .nz;
-  «pole_slots» = r .«pole_slots»;
-  spacings = r .spacings;
-  periodic = r .periodic;
-  active = r .active;
-  «layer_on» = r .«layer_on»;
-  materials = r .materials;
-  «material_count» = r .«material_count»;
-  «built_count» = n;
-  region = r .region;
-  clock = r .clock;
-}
-
 unfoldable pub polesFault : Record → ℕ → ℕ
 polesFault r n = faultLent r (eqb n (storeLengths r .poles))
 
 unfoldable pub buildCall : Record → List Float → Outcome (List Float)
 buildCall r poles =
     settle (polesFault r (length poles)) r poles (withBuilt r (builtOf r)) (zeros (length poles))
+
+-- ---- add_material: 6 TooManyPoles, then 5 Full; no store is lent; the answer is the material's id
+abbrev pub full : ℕ
+full = 5
+
+abbrev pub tooManyPoles : ℕ
+tooManyPoles = 6
+
+unfoldable pub addFault : Record → (poles : ℕ) → ℕ
+addFault r poles =
+    orElse (faultOf r)
+    (first (leb poles (r .«pole_slots»)) tooManyPoles
+    (first (ltb (r .«material_count») maxMaterials) full 0))
+
+-- the record keeps nothing of the places past the pole count, so that a canonical record stays canonical
+unfoldable pub added : Record → DispersiveMaterial → Record
+added r m = withMaterials r (set (r .materials) (r .«material_count») (canonMaterial m)) (r .«material_count» + 1)
+
+unfoldable pub addCall : Record → DispersiveMaterial → Outcome ℕ
+addCall r m = settle (addFault r (m .«pole_count»)) r 0 (added r m) (r .«material_count»)

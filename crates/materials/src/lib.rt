@@ -1,16 +1,33 @@
-// Materials placed in boxes of cells, and built.
+// Materials added to the record, placed in boxes of cells, and built.
 ghost use mathlib.Core.Path.{_≡_};
+ghost use mathlib.Core.Bool.{cond};
 ghost use Prim.Native.Nat.{_*_, _≤_};
 ghost use lib.ListN.{length};
+ghost use Rattle.dispersion.specs.Material.{blankSlot};
+ghost use Rattle.grid.specs.Canon.{canonMaterial};
+ghost use Rattle.grid.specs.Edited.{withMaterials};
 ghost use Rattle.grid.specs.Stores.{outcome};
-ghost use Rattle.materials.specs.Materials.{three, mediaSet, idsSet, mediaFault, setMaterialCall, placingFault, assignFault, assignBoxCall, placed, halfspace, anyPole, builtOf, polesFault, buildCall};
+ghost use Rattle.materials.specs.Materials.{three, mediaSet, idsSet, setMaterialCall, assignFault, assignBoxCall, placed, halfspace, anyPole, builtOf, buildCall, addFault, addCall};
 use cells::IndexBox;
+use dispersion::DispersiveMaterial;
+use dispersion::PoleSlot;
 use grid::Answer;
 use grid::Record;
 use grid::fault;
 use grid::stores;
 
+pub const FULL: u32 = 5;
+
+pub const TOO_MANY_POLES: u32 = 6;
+
 pub const NO_SUCH_MATERIAL: u32 = 7;
+
+// The refusal, the record, and the id of the material that was added.
+pub struct Added {
+    pub refusal: u32,
+    pub study: Record,
+    pub id: u32,
+}
 
 // Three numbers in each cell of a box.
 fn set_media(
@@ -32,17 +49,6 @@ fn set_media(
     cells::fill_box(media, 2 * n, nx, ny, nz, b, sigma);
 }
 
-fn media_fault(r: Record, media: usize) -> u32
-    ensures { λ n. ⌜ n ≡ mediaFault r media ⌝ }
-{
-    let f = fault::fault_of(r);
-    if f != 0 {
-        return f;
-    }
-    let l = stores::store_lengths(r);
-    fault::first_fault(media == l.media, stores::BAD_STORE, 0)
-}
-
 // Three numbers in each cell of a box; the ids are left.
 pub fn set_material(
     r: Record,
@@ -54,7 +60,8 @@ pub fn set_material(
 ) -> Answer
     ensures { λ o. ⌜ outcome (o .refusal) (o .study) (now (media .exit)) ≡ setMaterialCall r b «eps_r» «mu_r» sigma (now (media .entry)) ⌝ }
 {
-    let f = media_fault(r, media.len());
+    let j = stores::judge(r);
+    let f = stores::lent_fault(j.refusal, media.len() == j.lengths.media);
     if f != 0 {
         return Answer {
             refusal: f,
@@ -68,25 +75,14 @@ pub fn set_material(
     }
 }
 
-fn placing_fault(r: Record, media: usize, ids: usize) -> u32
-    ensures { λ n. ⌜ n ≡ placingFault r media ids ⌝ }
-{
-    let f = fault::fault_of(r);
-    if f != 0 {
-        return f;
-    }
-    let l = stores::store_lengths(r);
-    fault::first_fault((media == l.media) & (ids == l.ids), stores::BAD_STORE, 0)
-}
-
 fn assign_fault(r: Record, media: usize, ids: usize, id: u32) -> u32
     ensures { λ n. ⌜ n ≡ assignFault r media ids id ⌝ }
 {
-    let f = placing_fault(r, media, ids);
-    if f != 0 {
-        return f;
-    }
-    fault::first_fault((id as usize) < r.material_count, NO_SUCH_MATERIAL, 0)
+    let j = stores::judge(r);
+    let l = j.lengths;
+    let f = stores::lent_fault(j.refusal, (media == l.media) & (ids == l.ids));
+    let known = (id as usize) < r.material_count;
+    stores::or_else(f, fault::first_fault(known, NO_SUCH_MATERIAL, 0))
 }
 
 // A registered material's numbers and its id in each cell of a box.
@@ -160,22 +156,12 @@ fn built_of(r: Record) -> usize
     if any_pole(r) { r.material_count } else { 0 }
 }
 
-fn poles_fault(r: Record, poles: usize) -> u32
-    ensures { λ n. ⌜ n ≡ polesFault r poles ⌝ }
-{
-    let f = fault::fault_of(r);
-    if f != 0 {
-        return f;
-    }
-    let l = stores::store_lengths(r);
-    fault::first_fault(poles == l.poles, stores::BAD_STORE, 0)
-}
-
 // Fixes the built count, and clears the pole store.
 pub fn build_dispersion(r: Record, poles: &mut [f64]) -> Answer
     ensures { λ o. ⌜ outcome (o .refusal) (o .study) (now (poles .exit)) ≡ buildCall r (now (poles .entry)) ⌝ }
 {
-    let f = poles_fault(r, poles.len());
+    let j = stores::judge(r);
+    let f = stores::lent_fault(j.refusal, poles.len() == j.lengths.poles);
     if f != 0 {
         return Answer {
             refusal: f,
@@ -188,5 +174,66 @@ pub fn build_dispersion(r: Record, poles: &mut [f64]) -> Answer
     Answer {
         refusal: 0,
         study: q,
+    }
+}
+
+// A pole's place as a record keeps it: blank where it is not counted.
+fn kept_slot(counted: bool, s: PoleSlot) -> PoleSlot
+    ensures { λ k. ⌜ k ≡ cond counted s blankSlot ⌝ }
+{
+    if counted {
+        return s;
+    }
+    dispersion::blank_slot()
+}
+
+// A material as a record keeps it.
+fn kept_material(m: DispersiveMaterial) -> DispersiveMaterial
+    ensures { λ k. ⌜ k ≡ canonMaterial m ⌝ }
+{
+    let n = m.pole_count;
+    let a = kept_slot(0 < n, m.poles[0]);
+    let b = kept_slot(1 < n, m.poles[1]);
+    let c = kept_slot(2 < n, m.poles[2]);
+    let d = kept_slot(3 < n, m.poles[3]);
+    let poles = [a, b, c, d];
+    DispersiveMaterial {
+        eps_inf: m.eps_inf,
+        sigma: m.sigma,
+        mu_r: m.mu_r,
+        pole_count: n,
+        poles,
+    }
+}
+
+fn add_fault(r: Record, poles: usize) -> u32
+    ensures { λ n. ⌜ n ≡ addFault r poles ⌝ }
+{
+    let room = fault::first_fault(r.material_count < fault::MAX_MATERIALS, FULL, 0);
+    let later = fault::first_fault(poles <= r.pole_slots, TOO_MANY_POLES, room);
+    stores::or_else(fault::fault_of(r), later)
+}
+
+// Puts a material behind those that stand, and answers its id.
+pub fn add_material(r: Record, m: DispersiveMaterial) -> Added
+    ensures { λ o. ⌜ outcome (o .refusal) (o .study) (o .id) ≡ addCall r m ⌝ }
+{
+    let f = add_fault(r, m.pole_count);
+    if f != 0 {
+        return Added {
+            refusal: f,
+            study: r,
+            id: 0,
+        };
+    }
+    let at = r.material_count;
+    let kept = kept_material(m);
+    let mut q = r;
+    q.materials[at] = kept;
+    q.material_count = at + 1;
+    Added {
+        refusal: 0,
+        study: q,
+        id: at as u32,
     }
 }

@@ -12,6 +12,9 @@ pub mod engine {
         pub safe fn cichowiej_cfl_number(c0: f64, dx: f64, dy: f64, dz: f64, dt: f64) -> f64;
         pub safe fn cichowiej_max_stable_dt(c0: f64, dx: f64, dy: f64, dz: f64, dt: f64) -> f64;
         pub safe fn cichowiej_is_stable(c0: f64, dx: f64, dy: f64, dz: f64, dt: f64) -> bool;
+        pub safe fn cichowiej_powi(u: f64, n: usize) -> f64;
+        pub safe fn cichowiej_wall_sigma(t: usize, order: usize, sigma_max: f64, d: usize) -> f64;
+        pub safe fn cichowiej_stronger(s: f64, v: f64) -> f64;
         fn cichowiej_ade_coeffs(
             tag: u32,
             x: f64,

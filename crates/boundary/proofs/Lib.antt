@@ -1,0 +1,4 @@
+-- Laws that the functions' proofs cite.
+pub mod Power
+pub mod Graded
+pub mod Settling

@@ -1,0 +1,3 @@
+-- What the contracts of boundary cite.
+pub mod Lossy
+pub mod Walls

@@ -1,0 +1,4 @@
+-- Laws that the functions' proofs cite.
+pub mod Memories
+pub mod Axes
+pub mod Tables

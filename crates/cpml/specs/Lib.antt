@@ -1,0 +1,3 @@
+-- What the contracts of cpml cite.
+pub mod Memory
+pub mod Absorber

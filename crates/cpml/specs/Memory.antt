@@ -1,0 +1,41 @@
+-- The twelve memories of the convolution, and how one number of them moves on (Roden and Gedney 2000; cpml.rs, `Psi`, `psi_mut`, `advance`).
+-- Definitions only.
+use Prim.Native.Nat.{ℕ, _*_}
+use mathlib.Core.Bool.{Bool, true, false, cond}
+use mathlib.Core.List.{List}
+use lib.Ieee.{Float, eq}
+use Rattle.codec.specs.Lists.{part}
+use Rattle.root.specs.Rounded.{_⊕_, _⊗_, zeroF}
+use Rattle.cpml.specs.declared.Advanced.{Advanced}
+use Rattle.cpml.specs.declared.Place.{Place}
+use Rattle.cpml.specs.declared.Psi.{Psi}
+use Rattle.cpml.specs.declared.Psi.the-variants.{Exy, Exz, Eyz, Eyx, Ezx, Ezy, Hxy, Hxz, Hyz, Hyx, Hzx, Hzy}
+
+-- which of the two stores, and which of its six parts
+abbrev at : Bool → ℕ → Place
+at electric number = record { electric = electric; number = number }
+
+-- the field, then the axis of the derivative
+abbrev pub placeOf : Psi → Place
+placeOf Exy = at true 0
+placeOf Exz = at true 1
+placeOf Eyz = at true 2
+placeOf Eyx = at true 3
+placeOf Ezx = at true 4
+placeOf Ezy = at true 5
+placeOf Hxy = at false 0
+placeOf Hxz = at false 1
+placeOf Hyz = at false 2
+placeOf Hyx = at false 3
+placeOf Hzx = at false 4
+placeOf Hzy = at false 5
+
+-- the N numbers of one memory
+unfoldable pub memoryOf : Psi → (psiE psiH : List Float) → ℕ → List Float
+memoryOf which psiE psiH n = part (cond (placeOf which .electric) psiE psiH) (placeOf which .number * n) n
+
+-- ψ(n+1) = b ψ(n) + c ∂F/∂w; where c is 0.0, -0.0 too, the answer is +0.0 and the memory stands
+unfoldable pub advanced : (b c memory deriv : Float) → Advanced
+advanced b c memory deriv =
+    let v = b ⊗ memory ⊕ c ⊗ deriv in
+    cond (eq c zeroF) (record { memory = memory; answer = zeroF }) (record { memory = v; answer = v })

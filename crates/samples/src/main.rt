@@ -1,0 +1,186 @@
+// The sample studies of document 01 that are not in the theorem, run and compared with what the document says.
+ghost use mathlib.Core.Path.{_≡_};
+ghost use Prim.Native.Nat.{_*_};
+ghost use lib.ListN.{length};
+use boundary::LossyAbsorber;
+use boundary::walls;
+use cpml::Psi;
+use cpml::absorber;
+use cpml::memory;
+use grid::Record;
+use root::Spacings;
+
+fn say(what: &[u8], holds: bool) {
+    io::write_all(libc::STDOUT_FILENO, what);
+    if holds {
+        io::write_all(libc::STDOUT_FILENO, b": as stated\n");
+    } else {
+        io::write_all(libc::STDOUT_FILENO, b": OTHERWISE\n");
+    }
+}
+
+fn unit_spacings() -> Spacings {
+    Spacings {
+        dx: 1.0,
+        dy: 1.0,
+        dz: 1.0,
+        dt: 1.0,
+    }
+}
+
+// A study of one cell without pole slots.
+fn one_cell() -> Record {
+    let s = unit_spacings();
+    let standing = opening::open_record(0, 0, 0, 0, s);
+    let mut e = [0.0; 3];
+    let mut h = [0.0; 3];
+    let mut media = [0.0; 3];
+    let mut psi_e = [0.0; 6];
+    let mut psi_h = [0.0; 6];
+    let mut tables = [0.0; 18];
+    let mut poles = [0.0; 3];
+    let mut aux = [0.0; 98];
+    let mut ids = [0u32; 1];
+    let o = opening::new_rect(
+        standing,
+        1,
+        1,
+        1,
+        0,
+        s,
+        &mut e,
+        &mut h,
+        &mut media,
+        &mut psi_e,
+        &mut psi_h,
+        &mut tables,
+        &mut poles,
+        &mut aux,
+        &mut ids,
+    );
+    o.study
+}
+
+// A study of 24 cells along z.
+fn line() -> Record {
+    let s = unit_spacings();
+    let standing = opening::open_record(0, 0, 0, 0, s);
+    let mut e = [0.0; 72];
+    let mut h = [0.0; 72];
+    let mut media = [0.0; 72];
+    let mut psi_e = [0.0; 144];
+    let mut psi_h = [0.0; 144];
+    let mut tables = [0.0; 156];
+    let mut poles = [0.0; 72];
+    let mut aux = [0.0; 144];
+    let mut ids = [0u32; 24];
+    let o = opening::new_rect(
+        standing,
+        1,
+        1,
+        24,
+        0,
+        s,
+        &mut e,
+        &mut h,
+        &mut media,
+        &mut psi_e,
+        &mut psi_h,
+        &mut tables,
+        &mut poles,
+        &mut aux,
+        &mut ids,
+    );
+    o.study
+}
+
+// Whether the layer is active on z of the line, and on no other axis.
+fn active_on_z(r: Record, thickness: usize) -> bool {
+    let axes = [true, true, true];
+    let given = [1.0; 156];
+    let mut psi_e = [1.5; 144];
+    let mut psi_h = [1.5; 144];
+    let mut tables = [1.5; 156];
+    let o = absorber::set_boundary_cpml(
+        r,
+        axes,
+        thickness,
+        &given,
+        &mut psi_e,
+        &mut psi_h,
+        &mut tables,
+    );
+    let active = o.active;
+    (o.refusal == 0) & active[2] & !active[0] & !active[1]
+}
+
+fn cleared<'a>(which: Psi, psi_e: &'a [f64], psi_h: &'a [f64]) -> bool
+    requires { ⌜ (length (now «psi_e») ≡ 144) × (length (now «psi_h») ≡ 144) ⌝ }
+{
+    let m = memory::psi(which, psi_e, psi_h, 24);
+    let mut i = 0;
+    while i < m.len() {
+        if m[i] != 0.0 {
+            return false;
+        }
+        i += 1;
+    }
+    true
+}
+
+fn electric_cleared<'a>(psi_e: &'a [f64], psi_h: &'a [f64]) -> bool
+    requires { ⌜ (length (now «psi_e») ≡ 144) × (length (now «psi_h») ≡ 144) ⌝ }
+{
+    cleared(Psi::Exy, psi_e, psi_h)
+        & cleared(Psi::Exz, psi_e, psi_h)
+        & cleared(Psi::Eyz, psi_e, psi_h)
+        & cleared(Psi::Eyx, psi_e, psi_h)
+        & cleared(Psi::Ezx, psi_e, psi_h)
+        & cleared(Psi::Ezy, psi_e, psi_h)
+}
+
+fn magnetic_cleared<'a>(psi_e: &'a [f64], psi_h: &'a [f64]) -> bool
+    requires { ⌜ (length (now «psi_e») ≡ 144) × (length (now «psi_h») ≡ 144) ⌝ }
+{
+    cleared(Psi::Hxy, psi_e, psi_h)
+        & cleared(Psi::Hxz, psi_e, psi_h)
+        & cleared(Psi::Hyz, psi_e, psi_h)
+        & cleared(Psi::Hyx, psi_e, psi_h)
+        & cleared(Psi::Hzx, psi_e, psi_h)
+        & cleared(Psi::Hzy, psi_e, psi_h)
+}
+
+// Whether conducting walls clear all twelve memories of the line.
+fn memories_cleared(r: Record) -> bool {
+    let mut psi_e = [1.5; 144];
+    let mut psi_h = [1.5; 144];
+    let mut tables = [1.5; 156];
+    let o = walls::set_boundary_conductor(r, &mut psi_e, &mut psi_h, &mut tables);
+    let electric = electric_cleared(&psi_e, &psi_h);
+    let magnetic = magnetic_cleared(&psi_e, &psi_h);
+    (o.refusal == 0) & electric & magnetic
+}
+
+// Whether the lossy edge leaves sigma in a study of one cell.
+fn sigma_kept(r: Record) -> bool {
+    let a = LossyAbsorber {
+        thickness: 9,
+        order: 1,
+        sigma_max: 8.0,
+    };
+    let mut psi_e = [0.0; 6];
+    let mut psi_h = [0.0; 6];
+    let mut tables = [0.0; 18];
+    let mut media = [1.0, 1.0, 0.25];
+    let o = walls::set_boundary_lossy(r, a, &mut psi_e, &mut psi_h, &mut tables, &mut media);
+    (o.refusal == 0) & (media[2] == 0.25)
+}
+
+fn main() {
+    let r = line();
+    say(b"n 24, thickness 0 inactive", !active_on_z(r, 0));
+    say(b"n 24, thickness 11 active", active_on_z(r, 11));
+    say(b"n 24, thickness 12 inactive", !active_on_z(r, 12));
+    say(b"all twelve memories cleared", memories_cleared(r));
+    say(b"lossy, n 1, sigma kept", sigma_kept(one_cell()));
+}

@@ -1,0 +1,2 @@
+-- What the contracts of tfsf cite.
+pub mod Wave

@@ -1,0 +1,2 @@
+// The plane wave: the region of the total field.
+pub mod region;

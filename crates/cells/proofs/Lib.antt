@@ -3,3 +3,4 @@ pub mod Blocks
 pub mod Sweeps
 pub mod Pointwise
 pub mod Written
+pub mod Extensional

@@ -29,6 +29,13 @@ pub getD-part : {A : Type 0} (l : List A) (at m i : ℕ) (d : A) → i < m → g
 unfolding part
 getD-part l at m i d h = getD-take m (drop at l) i d h ∙ getD-drop at l i d
 
+-- the cell's place, as the blocks nest and as the paper says it
+pub nested-place : (nx ny i j k : ℕ) → k * (ny * nx) + (j * nx + i) ≡ cellIndex nx ny i j k
+nested-place nx ny i j k = let e : k * (ny * nx) ≡ k * (nx * ny) = ap (λ (q : ℕ). k * q) (mul-comm ny nx) in omega (arith, e)
+
+pub inner : (j i nx ny : ℕ) → j < ny → i < nx → j * nx + i < ny * nx
+inner j i nx ny p q = omega (arith, block-end j ny nx p)
+
 -- ---- lengths
 module _ {A : Type 0} (v : A) where
   pub row-keeps : (nx i0 i1 : ℕ) → Keeps nx (λ (_ : ℕ). setRow nx i0 i1 v)
@@ -65,13 +72,6 @@ module _ {A : Type 0} (v d : A) where
           ∙ joined-same nx _ _ (λ i q. ap (λ (x : A). (cond (within (b .i0) (b .i1) i) v x) ∷ []) (getD-part l (j * nx) nx i d q))
       go j k false = part-row l (j * nx) nx d (omega (arith, h, block-end j ny nx k))
 
-  -- the cell's place, as the blocks nest and as the paper says it
-  place : (nx ny i j k : ℕ) → k * (ny * nx) + (j * nx + i) ≡ cellIndex nx ny i j k
-  place nx ny i j k = let e : k * (ny * nx) ≡ k * (nx * ny) = ap (λ (q : ℕ). k * q) (mul-comm ny nx) in omega (arith, e)
-
-  inner : (j i nx ny : ℕ) → j < ny → i < nx → j * nx + i < ny * nx
-  inner j i nx ny p q = omega (arith, block-end j ny nx p)
-
   pub box-at : (nx ny nz : ℕ) (b : IndexBox) (l : List A) → length l ≡ nz * (ny * nx) →
       setBox nx ny nz b v l ≡ cellwise nx ny nz (λ i j k. cond (inBox b i j k) v (getD l (cellIndex nx ny i j k) d))
   unfolding setBox inBlocks cellwise inBox
@@ -83,14 +83,14 @@ module _ {A : Type 0} (v d : A) where
       go k q true =
           plane-at nx ny b (part l (k * (ny * nx)) (ny * nx)) (part-length l (k * (ny * nx)) (ny * nx) (omega (arith, h, block-end k nz (ny * nx) q)))
           ∙ joined-same ny _ _ (λ j p. joined-same nx _ _ (λ i r. ap (λ (x : A). (cond (within (b .j0) (b .j1) j && within (b .i0) (b .i1) i) v x) ∷ [])
-          (getD-part l (k * (ny * nx)) (ny * nx) (j * nx + i) d (inner j i nx ny p r) ∙ ap (λ (n : ℕ). getD l n d) (place nx ny i j k))))
+          (getD-part l (k * (ny * nx)) (ny * nx) (j * nx + i) d (inner j i nx ny p r) ∙ ap (λ (n : ℕ). getD l n d) (nested-place nx ny i j k))))
       go k q false =
           let p : List A = part l (k * (ny * nx)) (ny * nx) in
           let long = part-length l (k * (ny * nx)) (ny * nx) (omega (arith, h, block-end k nz (ny * nx) q)) in
           sym (parts-whole ny nx p long)
           ∙ joined-same ny _ _ (λ j r. part-row p (j * nx) nx d (omega (arith, long, block-end j ny nx r))
           ∙ joined-same nx _ _ (λ i t. ap (λ (x : A). x ∷ [])
-          (getD-part l (k * (ny * nx)) (ny * nx) (j * nx + i) d (inner j i nx ny r t) ∙ ap (λ (n : ℕ). getD l n d) (place nx ny i j k))))
+          (getD-part l (k * (ny * nx)) (ny * nx) (j * nx + i) d (inner j i nx ny r t) ∙ ap (λ (n : ℕ). getD l n d) (nested-place nx ny i j k))))
 
 -- ---- cell by cell
 pub cellwise-same : {A : Type 0} (nx ny nz : ℕ) (f g : ℕ → ℕ → ℕ → A) → ((i j k : ℕ) → i < nx → j < ny → k < nz → f i j k ≡ g i j k) → cellwise nx ny nz f ≡ cellwise nx ny nz g

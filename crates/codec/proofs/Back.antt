@@ -8,8 +8,7 @@ use lib.Dec.{T, ltb→lt, lt→ltb}
 use lib.ListN.{length, take}
 use lib.Ieee.{Float, binary64, toBits, ofBits, fits}
 use lib.Ieee.Bits.{ofBits-toBits, ofBits-fits, toBits-lt}
-use Rattle.codec.specs.Bytes.{le, unle, bytesFit, fine, readF, floatBytes}
-use Rattle.codec.specs.Bytes.{floatsBytes, floatsOf, allFine, floatsFit, idsBytes, idsOf, idsFit}
+use Rattle.codec.specs.Bytes.{le, unle, bytesFit, fine, readF, floatBytes, floatsBytes, floatsOf, allFine, floatsFit, idsBytes, idsOf, idsFit}
 use Rattle.codec.proofs.Bytes.{unle-le, le-unle, unle-lt}
 use Rattle.codec.proofs.Patterns.{read-number, read-other, bits-fine, bits-back}
 use Rattle.codec.proofs.Elements.{elements-back, pass-back, bytes-back, elements-fit, allPass-any}

@@ -10,14 +10,14 @@ use lib.Dec.{eqb, ltb}
 use lib.ListN.{length, getD}
 use lib.Ieee.{Float, nan}
 use borrow.Author.Tests.{eqb-true, ltb-true}
-use Rattle.root.specs.Rounded.{_⊕_}
+use Rattle.root.specs.Rounded.{_⊕_, summed}
 use Rattle.grid.specs.declared.Record.{Record}
 use Rattle.grid.specs.Sound.{Sound}
-use Rattle.grid.specs.Stores.{cells, storeLengths, faultLent}
+use Rattle.grid.specs.Stores.{cells, storeLengths, faultLent, numberAt}
 use Rattle.grid.proofs.Tests.{and-left, and-right, first-none, or-none}
 use Rattle.grid.proofs.Settled.{lent-none}
 use Rattle.cells.proofs.Blocks.{block-end}
-use Rattle.fields.specs.Fields.{summed, numberAt, energyFault, planeFault}
+use Rattle.fields.specs.Fields.{energyFault, planeFault}
 
 pub first-place : (s : List Float) (n m : ℕ) → getD s m nan ≡ numberAt s n 0 m
 first-place s n m = let e : m ≡ 0 * n + m = omega (arith, zero-mul n) in ap (λ (p : ℕ). getD s p nan) e

@@ -1,16 +1,16 @@
 -- The fields cleared, their energy, and the plane reading (grid.rs, `reset_fields` and `total_energy`; document 01). Definitions only.
-use Prim.Native.Nat.{ℕ, zero, suc, _+_, _*_}
+use Prim.Native.Nat.{ℕ, _+_, _*_}
 use mathlib.Core.Bool.{Bool, _&&_}
 use mathlib.Core.List.{List}
 use lib.Dec.{ltb, eqb}
-use lib.ListN.{length, getD}
-use lib.Ieee.{Float, nan}
-use Rattle.root.specs.Rounded.{_⊕_, _⊗_, zeroF, halfF}
+use lib.ListN.{length}
+use lib.Ieee.{Float}
+use Rattle.root.specs.Rounded.{_⊕_, _⊗_, zeroF, halfF, summed}
 use Rattle.root.specs.declared.Spacings.{Spacings}
 use Rattle.grid.specs.declared.Record.{Record}
 use Rattle.grid.specs.declared.stores.Lengths.{Lengths}
 use Rattle.grid.specs.Fault.{first}
-use Rattle.grid.specs.Stores.{zeros, cells, storeLengths, orElse, faultLent, Outcome, settle}
+use Rattle.grid.specs.Stores.{numberAt, zeros, cells, storeLengths, orElse, faultLent, Outcome, settle}
 
 -- ---- reset_fields: E, H, memories, poles and dp; not the auxiliary line, not the clock
 pub record Reset : Type 0 where
@@ -38,15 +38,6 @@ resetCall r s =
     (reset (cleared (s .electric)) (cleared (s .magnetic)) (cleared (s .psiE)) (cleared (s .psiH)) (cleared (s .poles)))
 
 -- ---- readings
--- from +0.0, f 0 and then f 1 and so on added up to f (n - 1)
-unfoldable pub summed : ℕ → (ℕ → Float) → Float
-summed zero f = zeroF
-summed (suc n) f = summed n f ⊕ f n
-
--- number c of the cell at place m, in a store of n cells
-abbrev pub numberAt : List Float → (n c m : ℕ) → Float
-numberAt s n c m = getD s (c * n + m) nan
-
 -- x² + y² + z² of a field's three numbers
 unfoldable pub squared : (x y z : Float) → Float
 squared x y z = x ⊗ x ⊕ y ⊗ y ⊕ z ⊗ z

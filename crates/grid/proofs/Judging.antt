@@ -65,6 +65,9 @@ all-fails f i (suc n) l q = ⊎-elim (λ e. last e) (λ b. rw (all-fails f i n b
 -- ---- sizes
 -- three sides, and what the code multiplies them to
 pub record Sides (a b c : ℕ) : Type 0 where
+  pub x1 : 1 ≤ a
+  pub y1 : 1 ≤ b
+  pub z1 : 1 ≤ c
   pub xs : a ≤ 512
   pub ys : b ≤ 512
   pub zs : c ≤ 512
@@ -84,6 +87,9 @@ sides-of a b c e =
     let y = side-of b (and-right (sideFits a) (sideFits b) two) in
     let z = side-of c (and-right (sideFits a && sideFits b) (sideFits c) e) in
     record {
+      x1 = x .0;
+      y1 = y .0;
+      z1 = z .0;
       xs = x .1;
       ys = y .1;
       zs = z .1;
@@ -128,6 +134,9 @@ sound r e =
     let size = size-of (r .nx) (r .ny) (r .nz) (h1 .0) in
     let count = counts-of r (study-counts r (h3 .0)) in
     record {
+      x1 = size .0 .x1;
+      y1 = size .0 .y1;
+      z1 = size .0 .z1;
       xs = size .0 .xs;
       ys = size .0 .ys;
       zs = size .0 .zs;

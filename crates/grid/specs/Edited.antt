@@ -36,3 +36,6 @@ withBuilt r n = edited r (r .periodic) (r .active) (r .«layer_on») (r .materia
 
 abbrev pub withRegion : Record → Region → Clock → Record
 withRegion r g t = edited r (r .periodic) (r .active) (r .«layer_on») (r .materials) (r .«material_count») (r .«built_count») g t
+
+abbrev pub withClock : Record → Clock → Record
+withClock r t = withRegion r (r .region) t

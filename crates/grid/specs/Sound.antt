@@ -4,6 +4,9 @@ use Prim.Native.Nat.{_+_, _*_, _≤_}
 use Rattle.grid.specs.declared.Record.{Record}
 
 pub record Sound (r : Record) : Type 0 where
+  pub x1 : 1 ≤ r .nx
+  pub y1 : 1 ≤ r .ny
+  pub z1 : 1 ≤ r .nz
   pub xs : r .nx ≤ 512
   pub ys : r .ny ≤ 512
   pub zs : r .nz ≤ 512

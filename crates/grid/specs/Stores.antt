@@ -3,8 +3,8 @@ use Prim.Native.Nat.{ℕ, zero, suc, _+_, _*_}
 use mathlib.Core.Bool.{Bool, _&&_}
 use mathlib.Core.List.{List}
 use lib.Dec.{eqb}
-use lib.ListN.{length, replicate}
-use lib.Ieee.{Float}
+use lib.ListN.{length, getD, replicate}
+use lib.Ieee.{Float, nan}
 use Rattle.root.specs.Rounded.{zeroF}
 use Rattle.grid.specs.declared.Record.{Record}
 use Rattle.grid.specs.declared.stores.Lengths.{Lengths}
@@ -78,6 +78,10 @@ sameLengths a b =
 
 abbrev pub badStore : ℕ
 badStore = 4
+
+-- number c of the cell at place m, in a store of n cells
+abbrev pub numberAt : List Float → (n c m : ℕ) → Float
+numberAt s n c m = getD s (c * n + m) nan
 
 -- the first number that is not 0
 abbrev pub orElse : ℕ → ℕ → ℕ

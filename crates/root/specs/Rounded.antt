@@ -1,5 +1,6 @@
 -- f64 arithmetic as the Rust writes it: each operation rounds to the nearest double, ties to even (IEEE 754). ⊗ and ⊘ bind before ⊕ and ⊖, and all
 -- group to the left, so a formula shows the order of its roundings. Definitions only.
+use Prim.Native.Nat.{ℕ, zero, suc}
 use lib.Ieee.{Float, binary64, add, sub, mul, div, ofBits}
 
 infixl 6 _⊕_
@@ -33,3 +34,8 @@ twoF = ofBits binary64 0x4000000000000000
 
 abbrev pub fourF : Float
 fourF = ofBits binary64 0x4010000000000000
+
+-- from +0.0, f 0 and then f 1 and so on added up to f (n - 1)
+unfoldable pub summed : ℕ → (ℕ → Float) → Float
+summed zero f = zeroF
+summed (suc n) f = summed n f ⊕ f n

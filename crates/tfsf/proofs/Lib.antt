@@ -1,1 +1,4 @@
 -- Laws that the functions' proofs cite.
+pub mod Ends
+pub mod Adding
+pub mod Faced

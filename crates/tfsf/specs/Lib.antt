@@ -1,2 +1,6 @@
 -- What the contracts of tfsf cite.
 pub mod Wave
+pub mod Line
+pub mod Corrections
+pub mod Spans
+pub mod Faces

@@ -1,8 +1,7 @@
-use lib.ListN.{length-map}
+use lib.ListN.{length-map, length}
 use mathlib.Core.Path.{_≡_, refl, sym, _∙_}
 use Rattle.materials.proofs.Building.{kept-four}
 use Rattle.grid.specs.Canon.{canonMaterial}
-use lib.ListN.{length}
 use Rattle.dispersion.specs.Material.{blankSlot}
 use borrow.Author.Needs.{needs}
 use Rattle.materials.proofs.kept_material.Statement.{statement}

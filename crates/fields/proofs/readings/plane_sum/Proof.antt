@@ -1,9 +1,9 @@
-use Rattle.root.specs.Rounded.{_⊗_}
+use Rattle.root.specs.Rounded.{_⊗_, summed}
 use Prim.Native.Nat.{_+_, _-_, _≤_, ℕ}
 use mathlib.Core.Path.{_∙_, _≡_, ap, refl}
 use Rattle.fields.proofs.Places.{first-place, second-place, sum-more}
 use native.Mathlib.Omega.{arith}
-use Rattle.fields.specs.Fields.{numberAt, summed}
+use Rattle.grid.specs.Stores.{numberAt}
 use Rattle.fields.proofs.readings.plane_sum.Statement.{statement}
 use Rattle.fields.proofs.readings.plane_sum.Tie as tie
 

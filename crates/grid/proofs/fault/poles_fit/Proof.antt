@@ -1,12 +1,11 @@
 use mathlib.Core.Bool.{true}
 use Prim.Native.Nat.{_-_, _≤_}
 use lib.Dec.{leb}
-use Rattle.grid.specs.Fault.{poleCount}
+use Rattle.grid.specs.Fault.{poleCount, allBelow, polesFit}
 use mathlib.Core.Path.{_≡_, refl, sym}
 use native.Mathlib.Omega.{arith}
 use borrow.Author.Needs.{needs}
 use borrow.Author.Tests.{le-leb, lt-leb}
-use Rattle.grid.specs.Fault.{allBelow, polesFit}
 use Rattle.grid.proofs.Judging.{all-more, all-fails}
 use Rattle.grid.proofs.fault.poles_fit.Statement.{statement}
 use Rattle.grid.proofs.fault.poles_fit.Tie as tie

@@ -1,0 +1,4 @@
+-- Laws that the functions' proofs cite.
+pub mod Columns
+pub mod Tables
+pub mod Advancing

@@ -1,0 +1,4 @@
+-- Laws that the functions' proofs cite.
+pub mod Flat
+pub mod Puts
+pub mod Whole

@@ -1,0 +1,22 @@
+use mathlib.Core.Path.{refl}
+use Rattle.heads.specs.Numbers.{cornersFine}
+use borrow.Author.Needs.{needs}
+use Rattle.heads.proofs.corners_fine.Statement.{statement}
+use Rattle.heads.proofs.corners_fine.Tie as tie
+
+returns : tie.Need-returns
+unfolding cornersFine
+returns c = refl
+
+pub corners-fine-spec : {M : Type 1} → statement M
+corners-fine-spec =
+    tie.close
+    (tie.spec
+    (λ c. search needs)
+    (λ c. search needs)
+    (λ c. search needs)
+    (λ c. search needs)
+    (λ c. search needs)
+    (λ c. search needs)
+    (λ c. search needs)
+    returns)

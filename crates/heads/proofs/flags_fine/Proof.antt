@@ -1,0 +1,23 @@
+use Rattle.heads.specs.Numbers.{flagsFine}
+use mathlib.Core.Path.{refl}
+use borrow.Author.Needs.{needs}
+use Rattle.heads.proofs.flags_fine.Statement.{statement}
+use Rattle.heads.proofs.flags_fine.Tie as tie
+
+returns : tie.Need-returns
+unfolding flagsFine
+returns c = refl
+
+pub flags-fine-spec : {M : Type 1} → statement M
+flags-fine-spec =
+    tie.close
+    (tie.spec
+    (λ c. search needs)
+    (λ c. search needs)
+    (λ c. search needs)
+    (λ c. search needs)
+    (λ c. search needs)
+    (λ c. search needs)
+    (λ c. search needs)
+    (λ c. search needs)
+    returns)

@@ -1,0 +1,3 @@
+-- What the contracts of heads cite.
+pub mod Numbers
+pub mod Widths

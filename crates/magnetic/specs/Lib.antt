@@ -1,0 +1,3 @@
+-- What the contracts of the magnetic half step cite.
+pub mod Row
+pub mod Swept

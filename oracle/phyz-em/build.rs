@@ -1,4 +1,7 @@
-//! Makes a crate of the original's files where they stand. Nothing of them is copied.
+//! Makes a crate of the original's files. Nothing of them comes into the repository: each is copied
+//! into the folder of built things, with `pub` put before every struct and field that has none. The
+//! comparison reads and fills arrays that the original keeps to itself (the layer's memories and
+//! tables, the polarizations); no line that computes is another one.
 //!
 //! They are looked for in the folder that PHYZ_EM_SRC names, taken from the repository's top, and
 //! without it in the documents' folder beside the repository.
@@ -23,9 +26,9 @@ fn main() {
         println!("cargo::rustc-cfg=original");
         println!("cargo::metadata=found=yes");
     }
-    let lib: String = files.iter().map(|file| declaration(file)).collect();
-    let out = PathBuf::from(env::var("OUT_DIR").unwrap()).join("lib.rs");
-    fs::write(out, lib).unwrap();
+    let out = PathBuf::from(env::var("OUT_DIR").unwrap());
+    let lib: String = files.iter().map(|file| declaration(file, &out)).collect();
+    fs::write(out.join("lib.rs"), lib).unwrap();
 }
 
 fn source_folder() -> PathBuf {
@@ -46,10 +49,42 @@ fn rust_files(folder: &Path) -> Vec<PathBuf> {
     files
 }
 
-fn declaration(file: &Path) -> String {
+/// Puts the opened copy of a file into `out`, and declares it as a module.
+fn declaration(file: &Path, out: &Path) -> String {
     let module = file.file_stem().unwrap().to_str().unwrap();
+    let copy = out.join(format!("opened_{module}.rs"));
+    fs::write(&copy, opened(&fs::read_to_string(file).unwrap())).unwrap();
     format!(
         "#[path = {:?}]\npub mod {module};\n",
-        file.display().to_string()
+        copy.display().to_string()
     )
+}
+
+/// The text with `pub` before structs and their fields. It is laid out as rustfmt does: a struct
+/// starts and ends at the margin, and its fields stand four places in.
+fn opened(text: &str) -> String {
+    let mut inside = false;
+    let mut copy = String::new();
+    for line in text.lines() {
+        let private = line.starts_with("struct ");
+        if private || line.starts_with("pub struct ") {
+            inside = line.ends_with('{');
+        } else if line == "}" {
+            inside = false;
+        }
+        match line.strip_prefix("    ").filter(|_| inside) {
+            Some(field) if is_private_field(field) => copy += &format!("    pub {field}\n"),
+            _ if private => copy += &format!("pub {line}\n"),
+            _ => copy += &format!("{line}\n"),
+        }
+    }
+    copy
+}
+
+fn is_private_field(line: &str) -> bool {
+    let name = line.split(':').next().unwrap();
+    line.contains(':')
+        && name
+            .chars()
+            .all(|c| c.is_ascii_lowercase() || c.is_ascii_digit() || c == '_')
 }

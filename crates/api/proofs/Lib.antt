@@ -1,2 +1,4 @@
 -- Laws that the functions' proofs cite.
+pub mod Passing
 pub mod Three
+pub mod Vacuum

@@ -1,2 +1,3 @@
--- What the contracts of the C functions cite.
+-- What the contracts of api cite.
+pub mod Blocks
 pub mod Poles

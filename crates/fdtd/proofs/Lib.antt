@@ -10,3 +10,4 @@ pub mod Stands
 pub mod Components
 pub mod Lines
 pub mod Fits
+pub mod Grids

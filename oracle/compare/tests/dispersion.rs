@@ -55,7 +55,10 @@ mod original {
             assert!(ade_coeffs(tag, numbers, EPS0, dt, &mut ours));
             let (a1, a2, a3) = pole(tag, numbers).ade_coeffs(dt);
             for (a, b) in ours.into_iter().zip([a1, a2, a3]) {
-                assert!(agree(a, b), "tag {tag} of {numbers:?}, dt {dt:e}: {a:e}, {b:e}");
+                assert!(
+                    agree(a, b),
+                    "tag {tag} of {numbers:?}, dt {dt:e}: {a:e}, {b:e}"
+                );
             }
             finite += u64::from(ours.iter().all(|a| a.is_finite()));
         }

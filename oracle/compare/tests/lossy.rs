@@ -1,11 +1,10 @@
 //! The lossy edge's conductivity against the original's: the power by halving against `powi`, the
 //! choice by `>` against `f64::max`. Where they part is listed in docs/DIFFERENCES.md.
 
-use compare::engine::{cichowiej_powi, cichowiej_stronger, cichowiej_wall_sigma};
+use compare::engine::{Study, cichowiej_powi, cichowiej_stronger, cichowiej_wall_sigma};
 
 /// The thickest layer is half of 512 cells.
 const THICKEST: usize = 256;
-const ORDERS: usize = 8;
 
 #[test]
 fn a_power_of_order_0_is_1_and_of_order_1_the_number_itself() {
@@ -33,6 +32,35 @@ fn only_a_larger_wall_replaces() {
     assert_eq!(cichowiej_stronger(1.0, f64::INFINITY), f64::INFINITY);
 }
 
+/// The conductivities that the call leaves on a line of n cells, each of which had 7 before.
+fn line(n: usize, thickness: usize, order: usize, sigma_max: f64) -> Vec<f64> {
+    let mut study = Study::lent([n, 1, 1], 0);
+    assert_eq!(study.open([n, 1, 1], 0, [1.0; 4]), 0);
+    assert_eq!(study.set_material([0, n, 0, 1, 0, 1], [1.0, 1.0, 7.0]), 0);
+    assert_eq!(study.set_boundary_lossy(thickness, order, sigma_max), 0);
+    study.media[2 * n..].to_vec()
+}
+
+/// Document 01's samples; and order 7, which the random studies leave out, by document 01's rule.
+#[test]
+fn lines_of_cells() {
+    assert_eq!(line(4, 9, 1, 8.0), [8.0, 4.0, 4.0, 8.0]);
+    assert_eq!(line(5, 2, 2, 8.0), [8.0, 2.0, 0.0, 2.0, 8.0]);
+    assert_eq!(line(1, 9, 1, 8.0), [7.0]);
+    let seventh = |u: f64| u * ((u * u) * ((u * u) * (u * u)));
+    for t in 1..=THICKEST {
+        for (i, sigma) in line(2 * t, t, 7, 3.0).into_iter().enumerate() {
+            let from_wall = i.min(2 * t - 1 - i);
+            let expected = 3.0 * seventh((t - from_wall) as f64 / t as f64);
+            assert_eq!(
+                sigma.to_bits(),
+                expected.to_bits(),
+                "{t} cells thick, at {i}"
+            );
+        }
+    }
+}
+
 #[cfg(not(original))]
 #[test]
 #[ignore = "skipped: the original's source is not there (PHYZ_EM_SRC names its folder)"]
@@ -43,6 +71,8 @@ mod original {
     use super::*;
     use compare::{EDGES, SIGN, agree, report};
     use phyz_em::boundary::AbsorberLayer;
+
+    const ORDERS: usize = 8;
 
     /// The product of the squares that the exponent's bits name, the lowest bit first.
     fn by_squares(mut u: f64, mut n: usize) -> f64 {
@@ -93,7 +123,9 @@ mod original {
             for s in [0.0, 1.0, f64::INFINITY] {
                 let (ours, theirs) = (cichowiej_stronger(s, v), s.max(v));
                 if !agree(ours, theirs) {
-                    report(&format!("strongest: {s:e} and {v:e} give {ours:e} here, {theirs:e} there"));
+                    report(&format!(
+                        "strongest: {s:e} and {v:e} give {ours:e} here, {theirs:e} there"
+                    ));
                     assert!(s == 0.0 && bits == SIGN);
                 }
             }

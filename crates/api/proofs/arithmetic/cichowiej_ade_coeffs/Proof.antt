@@ -1,0 +1,42 @@
+use mathlib.Core.Bool.{_&&_}
+use lib.Dec.{leb}
+use Rattle.root.proofs.Unique.{same}
+use mathlib.Core.Path.{_≡_, refl, sym, ap, _∙_}
+use native.Mathlib.Omega.{arith}
+use lib.ListN.{length, length-set}
+use borrow.Author.Tests.{not-true, not-false}
+use Rattle.api.specs.Poles.{taken, coeffsOr}
+use Rattle.api.proofs.Three.{three, room}
+use Rattle.dispersion.specs.Ade.{adeCoeffs}
+use borrow.Author.Needs.{needs}
+use Rattle.api.proofs.arithmetic.cichowiej_ade_coeffs.Statement.{statement}
+use Rattle.api.proofs.arithmetic.cichowiej_ade_coeffs.Tie as tie
+
+returns : tie.Need-returns
+unfolding taken coeffsOr
+returns c = (sym (not-true _ (c .if1 .taken)), refl)
+
+three-long : (c : tie.After-ade-coeffs) → length (c .before .before .before .before .args .out .now) ≡ 3
+three-long c =
+    let a = c .before .before .before .before .args in
+    room (leb 1 (a .tag) && leb (a .tag) 3) (length (a .out .now)) (not-false _ (c .before .before .if1 .left))
+
+returns-2 : tie.Need-returns-2
+unfolding taken coeffsOr
+returns-2 c =
+    let a = c .before .before .before .before .args in
+    let same = c .ade-coeffs .ensures ∙ ap (adeCoeffs (a .eps0) (a .dt)) (c .before .pole-of .ensures) in
+    (sym (not-false _ (c .before .before .if1 .left)), three (a .out .now) _ _ _ (three-long c) ∙ rw same)
+
+pub cichowiej-ade-coeffs-spec : {M : Type 1} → statement M
+cichowiej-ade-coeffs-spec =
+    tie.close
+    (tie.spec
+    returns
+    (λ c κs. search needs)
+    (λ c κs. search needs)
+    (λ c. omega (arith, three-long c))
+    (λ c. simp length-set (omega (arith, three-long c)))
+    (λ c. simp length-set (omega (arith, three-long c)))
+    (λ c. search needs)
+    returns-2)

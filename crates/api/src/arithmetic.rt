@@ -1,0 +1,137 @@
+// Constants and bare arithmetic: these refuse nothing.
+ghost use mathlib.Core.Path.{_≡_};
+ghost use Rattle.root.specs.Root.{Rooted};
+ghost use Rattle.root.specs.Constants as vacuum;
+ghost use Rattle.root.specs.Courant.{courantNumber, courantLimit, stable};
+ghost use Rattle.dispersion.specs.Ade.{adeCoeffs};
+ghost use Rattle.boundary.specs.Lossy.{power, wallSigma, stronger};
+ghost use Rattle.api.specs.Poles.{poleOf, taken, coeffsOr};
+use boundary::lossy;
+use dispersion::Pole;
+use root::Spacings;
+
+// ---- constants of vacuum
+
+#[no_mangle]
+pub extern "C" fn cichowiej_eps0() -> f64
+    ensures { λ r. ⌜ r ≡ vacuum.eps0 ⌝ }
+{
+    root::EPS0
+}
+
+#[no_mangle]
+pub extern "C" fn cichowiej_mu0() -> f64
+    ensures { λ r. ⌜ r ≡ vacuum.mu0 ⌝ }
+{
+    root::MU0
+}
+
+#[no_mangle]
+pub extern "C" fn cichowiej_c0() -> f64
+    ensures { λ r. ⌜ r ≡ vacuum.c0 ⌝ }
+{
+    root::C0
+}
+
+// ---- the square root and the Courant numbers
+
+#[no_mangle]
+pub extern "C" fn cichowiej_root(x: f64) -> f64
+    ensures { λ r. ⌜ Rooted x r ⌝ }
+{
+    root::root(x)
+}
+
+#[no_mangle]
+pub extern "C" fn cichowiej_cfl_number(c0: f64, dx: f64, dy: f64, dz: f64, dt: f64) -> f64
+    ensures { λ r. ⌜ r ≡ courantNumber c0 (record { dx = dx; dy = dy; dz = dz; dt = dt }) ⌝ }
+{
+    root::cfl_number(c0, Spacings { dx, dy, dz, dt })
+}
+
+#[no_mangle]
+pub extern "C" fn cichowiej_max_stable_dt(c0: f64, dx: f64, dy: f64, dz: f64, dt: f64) -> f64
+    ensures { λ r. ⌜ r ≡ courantLimit c0 (record { dx = dx; dy = dy; dz = dz; dt = dt }) ⌝ }
+{
+    root::max_stable_dt(c0, Spacings { dx, dy, dz, dt })
+}
+
+#[no_mangle]
+pub extern "C" fn cichowiej_is_stable(c0: f64, dx: f64, dy: f64, dz: f64, dt: f64) -> bool
+    ensures { λ r. ⌜ r ≡ stable c0 (record { dx = dx; dy = dy; dz = dz; dt = dt }) ⌝ }
+{
+    root::is_stable(c0, Spacings { dx, dy, dz, dt })
+}
+
+// ---- the coefficients of a pole
+
+fn pole_of(tag: u32, x: f64, y: f64, z: f64) -> Pole
+    ensures { λ r. ⌜ r ≡ poleOf tag x y z ⌝ }
+{
+    if tag == 1 {
+        return Pole::Lorentz {
+            delta_eps: x,
+            omega0: y,
+            gamma: z,
+        };
+    }
+    if tag == 2 {
+        return Pole::Drude {
+            omega_p: x,
+            gamma: y,
+        };
+    }
+    Pole::Debye {
+        delta_eps: x,
+        tau: y,
+    }
+}
+
+// Writes a1, a2, a3 and answers true; another tag than 1 to 3 or another length than 3 answers false
+// and writes nothing.
+#[no_mangle]
+pub extern "C" fn cichowiej_ade_coeffs(
+    tag: u32,
+    x: f64,
+    y: f64,
+    z: f64,
+    eps0: f64,
+    dt: f64,
+    out: &mut [f64],
+) -> bool
+    ensures { λ r. ⌜ (r ≡ taken tag (now (out .entry))) × (now (out .exit) ≡ coeffsOr r (adeCoeffs eps0 dt (poleOf tag x y z)) (now (out .entry))) ⌝ }
+{
+    if !((1 <= tag) & (tag <= 3) & (out.len() == 3)) {
+        return false;
+    }
+    let c = pole_of(tag, x, y, z).ade_coeffs(eps0, dt);
+    out[0] = c.a1;
+    out[1] = c.a2;
+    out[2] = c.a3;
+    true
+}
+
+// ---- the lossy edge's conductivity
+
+#[no_mangle]
+pub extern "C" fn cichowiej_powi(u: f64, n: usize) -> f64
+    ensures { λ r. ⌜ r ≡ power u n ⌝ }
+{
+    lossy::powi(u, n)
+}
+
+// At d cells from a wall whose layer is t cells thick.
+#[no_mangle]
+pub extern "C" fn cichowiej_wall_sigma(t: usize, order: usize, sigma_max: f64, d: usize) -> f64
+    ensures { λ r. ⌜ r ≡ wallSigma t order «sigma_max» d ⌝ }
+{
+    lossy::wall_sigma(t, order, sigma_max, d)
+}
+
+// s, unless v is larger.
+#[no_mangle]
+pub extern "C" fn cichowiej_stronger(s: f64, v: f64) -> f64
+    ensures { λ r. ⌜ r ≡ stronger s v ⌝ }
+{
+    lossy::stronger_of(s, v)
+}

@@ -1,0 +1,269 @@
+-- A block that is found a record, read and written again, is the same bytes. Assumes nothing.
+use Prim.Native.Nat.{ℕ, zero, suc, _+_, _*_, _^_, _≤_, _<_}
+use native.Mathlib.Omega.{arith}
+use mathlib.Core.Path.{_≡_, refl, sym, ap, _∙_, subst}
+use mathlib.Core.Bool.{Bool, true, false, cond, _&&_, _||_}
+use mathlib.Core.List.{List, [], _∷_, _++_}
+use borrow.Author.Tests.{leb-true, eqb-true}
+use lib.Dec.{T, leb, ltb, eqb, lt→ltb}
+use lib.ListN.{length, getD, take, drop, replicate, length-drop, take-append-drop}
+use lib.Seq.{ext-getD}
+use lib.Ieee.{binary64, ofBits}
+use Rattle.codec.specs.Lists.{part, every}
+use Rattle.codec.specs.Bytes.{fine, bytesFit, enc, fitAll, total}
+use Rattle.codec.proofs.Lists.{part-drop, every-of, every-drop}
+use Rattle.codec.proofs.Patterns.{bits-back}
+use Rattle.codec.proofs.Row.{fit-at, nums-fit, enc-nums}
+use Rattle.dispersion.specs.declared.DispersiveMaterial.{DispersiveMaterial}
+use Rattle.dispersion.specs.declared.PoleSlot.{PoleSlot}
+use Rattle.dispersion.specs.Material.{vacuumMaterial}
+use Rattle.cells.specs.Cells.{joined, row}
+use Rattle.cells.proofs.Blocks.{joined-same, length-row}
+use Rattle.cells.proofs.Sweeps.{parts-whole}
+use Rattle.cells.proofs.Written.{getD-row}
+use Rattle.grid.specs.declared.Region.{Region}
+use Rattle.grid.specs.Canon.{canonRegion}
+use Rattle.grid.specs.Fault.{beyond, allBelow}
+use Rattle.grid.proofs.Tests.{and-left, and-right}
+use Rattle.heads.specs.Numbers.{bits, flagNum, kindNum, kindOf, ghWidths, ghNums, flagsFine, cornersFine, ghFine, ghOf, slotNums, slotOf, slotFine, mlWidths, mlNums, mlFine, mlOf}
+use Rattle.heads.proofs.Puts.{length-nums}
+use Rattle.heads.proofs.Whole.{gh-total, ml-total}
+use Rattle.block.specs.Block.{entryNums, entryBytes, blockOf, headOf, entryAt, counted, allZero, entryFine, blockFine, entryOf, blockRecord}
+use Rattle.block.proofs.Turns.{block-long}
+use Rattle.block.proofs.Head.{all-at}
+
+-- ---- numbers of a list by their places
+places : (l : List ℕ) (n : ℕ) → length l ≡ n → row n (λ i. getD l i 0) ≡ l
+places l n e =
+    ext-getD 0 (row n (λ i. getD l i 0)) l (length-row n _ ∙ sym e) (λ i h. getD-row n (λ k. getD l k 0) i 0 (subst (λ (k : ℕ). i < k) (length-row n _) h))
+
+float-back : (n : ℕ) → n < 256 ^ 8 → fine n ≡ true → bits (ofBits binary64 n) ≡ n
+float-back n h e = bits-back n h e
+
+-- ---- one place of a pole
+slot-zero : (t a b c : ℕ) (s : PoleSlot) → slotFine false t a b c ≡ true → slotNums false s ≡ t ∷ a ∷ b ∷ c ∷ []
+unfolding slotFine
+slot-zero t a b c s e =
+    let three = and-left (eqb t 0 && eqb a 0 && eqb b 0) (eqb c 0) e in
+    let two = and-left (eqb t 0 && eqb a 0) (eqb b 0) three in
+    rw (eqb-true t 0 (and-left (eqb t 0) (eqb a 0) two), eqb-true a 0 (and-right (eqb t 0) (eqb a 0) two), eqb-true b 0 (and-right (eqb t 0 && eqb a 0) (eqb b 0) three), eqb-true c 0 (and-right (eqb t 0 && eqb a 0 && eqb b 0) (eqb c 0) e))
+
+module _ (a b c : ℕ) (fa : bits (ofBits binary64 a) ≡ a) (fb : bits (ofBits binary64 b) ≡ b) (fc : bits (ofBits binary64 c) ≡ c) where
+  slot-tag : (t : ℕ) → 1 ≤ t → t ≤ 3 → (eqb t 1 || eqb c 0) ≡ true → slotNums true (slotOf t a b c) ≡ t ∷ a ∷ b ∷ c ∷ []
+  slot-tag zero p q e = absurd (let z : ⊥ = omega arith in z)
+  slot-tag (suc zero) p q e = rw (fa, fb, fc)
+  slot-tag (suc (suc zero)) p q e = rw (fa, fb, eqb-true c 0 e)
+  slot-tag (suc (suc (suc zero))) p q e = rw (fa, fb, eqb-true c 0 e)
+  slot-tag (suc (suc (suc (suc t)))) p q e = absurd (let z : ⊥ = omega arith in z)
+
+slot-again : (k : Bool) (t a b c : ℕ) → a < 256 ^ 8 → b < 256 ^ 8 → c < 256 ^ 8 → slotFine k t a b c ≡ true → slotNums k (slotOf t a b c) ≡ t ∷ a ∷ b ∷ c ∷ []
+unfolding slotFine
+slot-again false t a b c p q r e = slot-zero t a b c (slotOf t a b c) e
+slot-again true t a b c p q r e =
+    let last = eqb t 1 || eqb c 0 in
+    let five = and-left (leb 1 t && leb t 3 && fine a && fine b && fine c) last e in
+    let four = and-left (leb 1 t && leb t 3 && fine a && fine b) (fine c) five in
+    let three = and-left (leb 1 t && leb t 3 && fine a) (fine b) four in
+    let two = and-left (leb 1 t && leb t 3) (fine a) three in
+    slot-tag a b c (float-back a p (and-right (leb 1 t && leb t 3) (fine a) three)) (float-back b q (and-right (leb 1 t && leb t 3 && fine a) (fine b) four))
+    (float-back c r (and-right (leb 1 t && leb t 3 && fine a && fine b) (fine c) five)) t (leb-true 1 t (and-left (leb 1 t) (leb t 3) two)) (leb-true t 3 (and-right (leb 1 t) (leb t 3) two))
+    (and-right (leb 1 t && leb t 3 && fine a && fine b && fine c) last e)
+
+-- ---- one material
+twenty-again : (l : List ℕ) (x y z : ℕ) (a b c d : List ℕ) → length l ≡ 20 → x ≡ getD l 0 0 → y ≡ getD l 1 0 → z ≡ getD l 2 0 →
+    a ≡ getD l 4 0 ∷ getD l 5 0 ∷ getD l 6 0 ∷ getD l 7 0 ∷ [] → b ≡ getD l 8 0 ∷ getD l 9 0 ∷ getD l 10 0 ∷ getD l 11 0 ∷ [] →
+    c ≡ getD l 12 0 ∷ getD l 13 0 ∷ getD l 14 0 ∷ getD l 15 0 ∷ [] → d ≡ getD l 16 0 ∷ getD l 17 0 ∷ getD l 18 0 ∷ getD l 19 0 ∷ [] →
+    (x ∷ y ∷ z ∷ getD l 3 0 ∷ []) ++ a ++ b ++ c ++ d ≡ l
+unfolding joined
+twenty-again l x y z a b c d e p q r i j k m = rw (p, q, r, i, j, k, m) (places l 20 e)
+
+material-again : (l : List ℕ) → length l ≡ 20 → T (fitAll mlWidths l) → mlFine l ≡ true → mlNums (mlOf l) ≡ l
+unfolding mlNums mlOf mlFine
+material-again l e t f =
+    let n : ℕ → ℕ = λ i. getD l i 0 in
+    let x = fine (n 0) in
+    let y = fine (n 1) in
+    let z = fine (n 2) in
+    let s0 = slotFine (ltb 0 (n 3)) (n 4) (n 5) (n 6) (n 7) in
+    let s1 = slotFine (ltb 1 (n 3)) (n 8) (n 9) (n 10) (n 11) in
+    let s2 = slotFine (ltb 2 (n 3)) (n 12) (n 13) (n 14) (n 15) in
+    let s3 = slotFine (ltb 3 (n 3)) (n 16) (n 17) (n 18) (n 19) in
+    let f6 = and-left (x && y && z && s0 && s1 && s2) s3 f in
+    let f5 = and-left (x && y && z && s0 && s1) s2 f6 in
+    let f4 = and-left (x && y && z && s0) s1 f5 in
+    let f3 = and-left (x && y && z) s0 f4 in
+    let f2 = and-left (x && y) z f3 in
+    let w : (i : ℕ) → i < 20 → n i < 256 ^ getD mlWidths i 0 = λ i h. fit-at mlWidths l i t h in
+    twenty-again l _ _ _ _ _ _ _ e (float-back (n 0) (w 0 (omega arith)) (and-left x y f2)) (float-back (n 1) (w 1 (omega arith)) (and-right x y f2)) (float-back (n 2) (w 2 (omega arith)) (and-right (x && y) z f3))
+    (slot-again (ltb 0 (n 3)) (n 4) (n 5) (n 6) (n 7) (w 5 (omega arith)) (w 6 (omega arith)) (w 7 (omega arith)) (and-right (x && y && z) s0 f4))
+    (slot-again (ltb 1 (n 3)) (n 8) (n 9) (n 10) (n 11) (w 9 (omega arith)) (w 10 (omega arith)) (w 11 (omega arith)) (and-right (x && y && z && s0) s1 f5))
+    (slot-again (ltb 2 (n 3)) (n 12) (n 13) (n 14) (n 15) (w 13 (omega arith)) (w 14 (omega arith)) (w 15 (omega arith)) (and-right (x && y && z && s0 && s1) s2 f6))
+    (slot-again (ltb 3 (n 3)) (n 16) (n 17) (n 18) (n 19) (w 17 (omega arith)) (w 18 (omega arith)) (w 19 (omega arith)) (and-right (x && y && z && s0 && s1 && s2) s3 f))
+
+-- ---- the record itself
+flag-again : (n : ℕ) → leb n 1 ≡ true → flagNum (eqb n 1) ≡ n
+flag-again zero e = refl
+flag-again (suc zero) e = refl
+flag-again (suc (suc n)) e = absurd (let z = leb-true (suc (suc n)) 1 e in let w : ⊥ = omega arith in w)
+
+abbrev regionNums : Region → List ℕ
+regionNums g = kindNum (g .kind) ∷ g .i0 ∷ g .i1 ∷ g .j0 ∷ g .j1 ∷ g .k0 ∷ g .k1 ∷ []
+
+zero-corners : (a b c d e f : ℕ) → (eqb a 0 && eqb b 0 && eqb c 0 && eqb d 0 && eqb e 0 && eqb f 0) ≡ true → (0 ∷ 0 ∷ 0 ∷ 0 ∷ 0 ∷ 0 ∷ 0 ∷ []) ≡ 0 ∷ a ∷ b ∷ c ∷ d ∷ e ∷ f ∷ []
+zero-corners a b c d e f t =
+    let A = eqb a 0 in
+    let B = eqb b 0 in
+    let C = eqb c 0 in
+    let D = eqb d 0 in
+    let E = eqb e 0 in
+    let F = eqb f 0 in
+    let t5 = and-left (A && B && C && D && E) F t in
+    let t4 = and-left (A && B && C && D) E t5 in
+    let t3 = and-left (A && B && C) D t4 in
+    let t2 = and-left (A && B) C t3 in
+    rw (eqb-true a 0 (and-left A B t2), eqb-true b 0 (and-right A B t2), eqb-true c 0 (and-right (A && B) C t3), eqb-true d 0 (and-right (A && B && C) D t4), eqb-true e 0 (and-right (A && B && C && D) E t5), eqb-true f 0 (and-right (A && B && C && D && E) F t))
+
+region-again : (k a b c d e f : ℕ) → leb k 3 ≡ true → (ltb 0 k || (eqb a 0 && eqb b 0 && eqb c 0 && eqb d 0 && eqb e 0 && eqb f 0)) ≡ true →
+    regionNums (canonRegion (record { kind = kindOf k; i0 = a; i1 = b; j0 = c; j1 = d; k0 = e; k1 = f })) ≡ k ∷ a ∷ b ∷ c ∷ d ∷ e ∷ f ∷ []
+unfolding canonRegion
+region-again zero a b c d e f h t = zero-corners a b c d e f t
+region-again (suc zero) a b c d e f h t = refl
+region-again (suc (suc zero)) a b c d e f h t = refl
+region-again (suc (suc (suc zero))) a b c d e f h t = refl
+region-again (suc (suc (suc (suc k)))) a b c d e f h t = absurd (let z = leb-true (suc (suc (suc (suc k)))) 3 h in let w : ⊥ = omega arith in w)
+
+seven-again : (a b c d e f g : ℕ) → leb a 1 ≡ true → leb b 1 ≡ true → leb c 1 ≡ true → leb d 1 ≡ true → leb e 1 ≡ true → leb f 1 ≡ true → leb g 1 ≡ true →
+    (flagNum (eqb a 1) ∷ flagNum (eqb b 1) ∷ flagNum (eqb c 1) ∷ flagNum (eqb d 1) ∷ flagNum (eqb e 1) ∷ flagNum (eqb f 1) ∷ flagNum (eqb g 1) ∷ []) ≡ a ∷ b ∷ c ∷ d ∷ e ∷ f ∷ g ∷ []
+seven-again a b c d e f g p q r s t u v = rw (flag-again a p, flag-again b q, flag-again c r, flag-again d s, flag-again e t, flag-again f u, flag-again g v)
+
+five-again : (a b c d e : ℕ) → a < 256 ^ 8 → b < 256 ^ 8 → c < 256 ^ 8 → d < 256 ^ 8 → e < 256 ^ 8 → (fine a && fine b && fine c && fine d && fine e) ≡ true →
+    (bits (ofBits binary64 a) ∷ bits (ofBits binary64 b) ∷ bits (ofBits binary64 c) ∷ bits (ofBits binary64 d) ∷ bits (ofBits binary64 e) ∷ []) ≡ a ∷ b ∷ c ∷ d ∷ e ∷ []
+five-again a b c d e ha hb hc hd he t =
+    let t4 = and-left (fine a && fine b && fine c && fine d) (fine e) t in
+    let t3 = and-left (fine a && fine b && fine c) (fine d) t4 in
+    let t2 = and-left (fine a && fine b) (fine c) t3 in
+    rw (float-back a ha (and-left (fine a) (fine b) t2), float-back b hb (and-right (fine a) (fine b) t2), float-back c hc (and-right (fine a && fine b) (fine c) t3), float-back d hd (and-right (fine a && fine b && fine c) (fine d) t4), float-back e he (and-right (fine a && fine b && fine c && fine d) (fine e) t))
+
+gathered : (l f g x : List ℕ) → length l ≡ 26 → f ≡ getD l 3 0 ∷ getD l 4 0 ∷ getD l 5 0 ∷ getD l 6 0 ∷ getD l 7 0 ∷ getD l 8 0 ∷ getD l 9 0 ∷ [] →
+    g ≡ getD l 13 0 ∷ getD l 14 0 ∷ getD l 15 0 ∷ getD l 16 0 ∷ getD l 17 0 ∷ getD l 18 0 ∷ getD l 19 0 ∷ [] → x ≡ getD l 20 0 ∷ getD l 21 0 ∷ getD l 22 0 ∷ getD l 23 0 ∷ getD l 24 0 ∷ [] →
+    (getD l 0 0 ∷ getD l 1 0 ∷ getD l 2 0 ∷ []) ++ f ++ (getD l 10 0 ∷ getD l 11 0 ∷ getD l 12 0 ∷ g) ++ x ++ (getD l 25 0 ∷ []) ≡ l
+unfolding joined
+gathered l f g x e p q r = rw (p, q, r) (places l 26 e)
+
+-- the flags and the kind of a head that is fine
+record Flags (l : List ℕ) : Type 0 where
+  f3 : leb (getD l 3 0) 1 ≡ true
+  f4 : leb (getD l 4 0) 1 ≡ true
+  f5 : leb (getD l 5 0) 1 ≡ true
+  f6 : leb (getD l 6 0) 1 ≡ true
+  f7 : leb (getD l 7 0) 1 ≡ true
+  f8 : leb (getD l 8 0) 1 ≡ true
+  f9 : leb (getD l 9 0) 1 ≡ true
+  f13 : leb (getD l 13 0) 3 ≡ true
+
+flags-of : (l : List ℕ) → flagsFine l ≡ true → Flags l
+unfolding flagsFine
+flags-of l t =
+    let a = leb (getD l 3 0) 1 in
+    let b = leb (getD l 4 0) 1 in
+    let c = leb (getD l 5 0) 1 in
+    let d = leb (getD l 6 0) 1 in
+    let e = leb (getD l 7 0) 1 in
+    let f = leb (getD l 8 0) 1 in
+    let g = leb (getD l 9 0) 1 in
+    let h = leb (getD l 13 0) 3 in
+    let t7 = and-left (a && b && c && d && e && f && g) h t in
+    let t6 = and-left (a && b && c && d && e && f) g t7 in
+    let t5 = and-left (a && b && c && d && e) f t6 in
+    let t4 = and-left (a && b && c && d) e t5 in
+    let t3 = and-left (a && b && c) d t4 in
+    let t2 = and-left (a && b) c t3 in
+    record {
+      f3 = and-left a b t2;
+      f4 = and-right a b t2;
+      f5 = and-right (a && b) c t3;
+      f6 = and-right (a && b && c) d t4;
+      f7 = and-right (a && b && c && d) e t5;
+      f8 = and-right (a && b && c && d && e) f t6;
+      f9 = and-right (a && b && c && d && e && f) g t7;
+      f13 = and-right (a && b && c && d && e && f && g) h t;
+    }
+
+head-again : (l : List ℕ) (ms : List DispersiveMaterial) → length l ≡ 26 → T (fitAll ghWidths l) → ghFine l ≡ true → ghNums (ghOf l ms) ≡ l
+unfolding ghNums ghOf ghFine cornersFine
+head-again l ms e t f =
+    let n : ℕ → ℕ = λ i. getD l i 0 in
+    let floats = fine (n 20) && fine (n 21) && fine (n 22) && fine (n 23) && fine (n 24) in
+    let two = and-left (flagsFine l && cornersFine l) floats f in
+    let k = flags-of l (and-left (flagsFine l) (cornersFine l) two) in
+    let w : (i : ℕ) → i < 26 → n i < 256 ^ getD ghWidths i 0 = λ i h. fit-at ghWidths l i t h in
+    gathered l _ _ _ e (seven-again (n 3) (n 4) (n 5) (n 6) (n 7) (n 8) (n 9) (k .f3) (k .f4) (k .f5) (k .f6) (k .f7) (k .f8) (k .f9))
+    (region-again (n 13) (n 14) (n 15) (n 16) (n 17) (n 18) (n 19) (k .f13) (and-right (flagsFine l) (cornersFine l) two))
+    (five-again (n 20) (n 21) (n 22) (n 23) (n 24) (w 20 (omega arith)) (w 21 (omega arith)) (w 22 (omega arith)) (w 23 (omega arith)) (w 24 (omega arith)) (and-right (flagsFine l && cornersFine l) floats f))
+
+-- ---- the whole block
+zeros-are : (l : List ℕ) (n : ℕ) → length l ≡ n → allZero l ≡ true → replicate n 0 ≡ l
+unfolding every
+zeros-are [] zero e t = refl
+zeros-are [] (suc n) e t = absurd (let z : ⊥ = omega arith in z)
+zeros-are (x ∷ l) zero e t = absurd (let z : ⊥ = omega arith in z)
+zeros-are (x ∷ l) (suc n) e t = rw (eqb-true x 0 (and-left (eqb x 0) (allZero l) t), zeros-are l n (omega arith) (and-right (eqb x 0) (allZero l) t))
+
+module _ (b : List ℕ) (ok : blockFine b ≡ true) (small : (i : ℕ) → getD b i 0 < 256) where
+  long : length b ≡ 2073
+  long = block-long b ok
+
+  bytes : T (bytesFit b)
+  bytes = every-of (λ x. ltb x 256) b 0 (λ i _. lt→ltb (getD b i 0) 256 (small i))
+
+  head-good : ghFine (headOf b) ≡ true
+  unfolding blockFine
+  head-good = and-right (eqb (length b) 2073) (ghFine (headOf b)) (and-left (eqb (length b) 2073 && ghFine (headOf b)) (allBelow (entryFine b) 16) ok)
+
+  entry-good : (i : ℕ) → i < 16 → entryFine b i ≡ true
+  unfolding blockFine
+  entry-good i h = all-at (entryFine b) 16 i (and-right (eqb (length b) 2073 && ghFine (headOf b)) (allBelow (entryFine b) 16) ok) h
+
+  head-bytes : enc ghWidths (ghNums (blockRecord b)) ≡ take 73 b
+  unfolding blockRecord
+  head-bytes =
+      ap (enc ghWidths) (head-again (headOf b) (row 16 (entryOf b)) (length-nums ghWidths b) (nums-fit ghWidths b (omega (arith, gh-total, long)) bytes) head-good)
+      ∙ enc-nums ghWidths b (omega (arith, gh-total, long)) bytes
+      ∙ ap (λ (k : ℕ). take k b) gh-total
+
+  module _ (i : ℕ) (h : i < 16) where
+    abbrev rest : List ℕ
+    rest = drop (73 + 125 * i) b
+
+    room : total mlWidths ≤ length rest
+    room = omega (arith, ml-total, length-drop (73 + 125 * i) b, long, h)
+
+    rest-bytes : T (bytesFit rest)
+    rest-bytes = every-drop _ (73 + 125 * i) b bytes
+
+    entry-nums : entryNums (counted b i) (entryOf b i) ≡ entryAt b i
+    unfolding entryNums entryOf entryFine
+    entry-nums = go (counted b i) (entry-good i h)
+      where
+        go : (t : Bool) → cond t (mlFine (entryAt b i)) (allZero (entryAt b i)) ≡ true → cond t (mlNums (cond t (mlOf (entryAt b i)) vacuumMaterial)) (replicate 20 0) ≡ entryAt b i
+        go true f = material-again (entryAt b i) (length-nums mlWidths rest) (nums-fit mlWidths rest room rest-bytes) f
+        go false f = zeros-are (entryAt b i) 20 (length-nums mlWidths rest) f
+
+    entry-bytes : entryBytes (blockRecord b) i ≡ part (drop 73 b) (i * 125) 125
+    unfolding entryBytes blockRecord ghOf part
+    entry-bytes =
+        let place : 73 + 125 * i ≡ 73 + i * 125 = omega arith in
+        ap (λ (m : DispersiveMaterial). enc mlWidths (entryNums (counted b i) m)) (getD-row 16 (entryOf b) i beyond h)
+        ∙ ap (enc mlWidths) entry-nums
+        ∙ enc-nums mlWidths rest room rest-bytes
+        ∙ ap (λ (k : ℕ). take k rest) ml-total
+        ∙ ap (λ (k : ℕ). take 125 (drop k b)) place
+        ∙ sym (part-drop b 73 (i * 125) 125)
+
+  pub block-again : blockOf (blockRecord b) ≡ b
+  unfolding blockOf
+  block-again =
+      ap (λ (x : List ℕ). x ++ joined 16 (entryBytes (blockRecord b))) head-bytes
+      ∙ ap (λ (x : List ℕ). take 73 b ++ x)
+      (joined-same 16 (entryBytes (blockRecord b)) (λ i. part (drop 73 b) (i * 125) 125) entry-bytes ∙ parts-whole 16 125 (drop 73 b) (length-drop 73 b ∙ omega (arith, long)))
+      ∙ take-append-drop 73 b

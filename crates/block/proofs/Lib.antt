@@ -1,0 +1,8 @@
+-- Laws that the functions' proofs, and the crates above, cite.
+pub mod Turns
+pub mod Entry
+pub mod Head
+pub mod Back
+pub mod Decoded
+pub mod Owned
+pub mod Again

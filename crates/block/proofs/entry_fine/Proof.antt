@@ -1,0 +1,27 @@
+use Rattle.block.proofs.Turns.{fine-inside, fine-outside}
+use borrow.Author.Needs.{needs}
+use Rattle.block.proofs.entry_fine.Statement.{statement}
+use Rattle.block.proofs.entry_fine.Tie as tie
+
+returns : tie.Need-returns
+returns c =
+    let a = c .before .before .before .before .args in
+    fine-inside (a .b .now) (a .i) (a .count) (c .before .before .before .before .pre .2) _ _ (c .before .if1 .taken) (c .before .before .get-ml .ensures) (c .ml-fine .ensures)
+
+returns-2 : tie.Need-returns-2
+returns-2 c =
+    let a = c .before .before .before .before .before .args in
+    fine-outside (a .b .now) (a .i) (a .count) (c .before .before .before .before .before .pre .2) _ _ (c .before .before .if1 .left) (c .before .before .before .get-ml .ensures) (c .all-zero .ensures)
+
+pub entry-fine-spec : {M : Type 1} → statement M
+entry-fine-spec =
+    tie.close
+    (tie.spec
+    (λ c. search needs)
+    (λ c. search needs)
+    (λ c κs. search needs)
+    (λ c κs. search needs)
+    returns
+    (λ c. search needs)
+    (λ c κs. search needs)
+    returns-2)

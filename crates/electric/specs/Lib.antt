@@ -1,0 +1,3 @@
+-- What the contracts of the electric half step cite.
+pub mod Row
+pub mod Swept

@@ -1,0 +1,2 @@
+-- What the contracts of run cite.
+pub mod Run

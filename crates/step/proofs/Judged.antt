@@ -1,0 +1,144 @@
+-- The ids tested one after another, and what a study without fault gives. Assumes nothing.
+use Prim.Native.Nat.{ℕ, zero, suc, _+_, _-_, _*_, _≤_, _<_}
+use native.Mathlib.Numerals.{add-one}
+use native.Mathlib.Omega.{arith}
+use mathlib.Core.Path.{_≡_, refl, sym, ap, _∙_}
+use mathlib.Core.Bool.{Bool, true, false, cond, _&&_, _||_}
+use mathlib.Core.List.{List, [], _∷_}
+use lib.Dec.{eqb, ltb, leb}
+use lib.ListN.{length, getD, take}
+use lib.Seq.{take-all}
+use borrow.Author.Tests.{ltb-true, leb-true, leb-false, le-leb, lt-leb, ne-eqb}
+use Rattle.codec.specs.Lists.{every}
+use Rattle.grid.specs.declared.Record.{Record}
+use Rattle.grid.specs.declared.stores.Lengths.{Lengths}
+use Rattle.grid.specs.Fault.{faultOf, sizeFits, spacingsFit, studyFits, countsFit, polesFit, layerFits, regionFits, cornersFit, isAbsent, poleCount}
+use Rattle.grid.specs.Limits.{maxPoleSlots, maxMaterials}
+use Rattle.grid.specs.Sound.{Sound}
+use Rattle.grid.specs.Stores.{Stores, lengthsOf, storeLengths, cells, faultWith, faultLent}
+use Rattle.grid.proofs.Tests.{and-left, and-right, first-none, or-none}
+use Rattle.grid.proofs.Settled.{with-none}
+use Rattle.ade.proofs.Advancing.{fit-of}
+use Rattle.tfsf.specs.Faces.{Corners}
+use Rattle.tfsf.proofs.Faced.{corners-of}
+use Rattle.step.specs.Step.{lastStep, freshIds, stepFault}
+use Rattle.step.specs.Ready.{Wavy, Polar, Ready}
+
+-- ---- a test of every element, one more each time
+and-true : (a : Bool) → (a && true) ≡ a
+and-true true = refl
+and-true false = refl
+
+and-assoc : (a b c : Bool) → (a && (b && c)) ≡ (a && b && c)
+and-assoc true b c = refl
+and-assoc false b c = refl
+
+module _ (p : ℕ → Bool) where
+  next : (l : List ℕ) (i : ℕ) → i < length l → every p (take (suc i) l) ≡ (every p (take i l) && p (getD l i 0))
+  unfolding every
+  next [] i h = absurd (omega arith)
+  next (x ∷ l) zero h = and-true (p x)
+  next (x ∷ l) (suc i) h = ap (λ (b : Bool). p x && b) (next l i (omega arith)) ∙ and-assoc (p x) (every p (take i l)) (p (getD l i 0))
+
+  pub every-none : (l : List ℕ) → true ≡ every p (take 0 l)
+  unfolding every
+  every-none l = refl
+
+  pub every-more : {b b' : Bool} {x : ℕ} (l : List ℕ) (i : ℕ) → i < length l → b ≡ every p (take i l) → x ≡ getD l i 0 → b' ≡ (b && p x) → b' ≡ every p (take (i + 1) l)
+  every-more {b} {b'} {x} l i h e ex eb =
+      rw add-one (eb ∙ ap (λ (a : Bool). a && p x) e ∙ ap (λ (y : ℕ). every p (take i l) && p y) ex ∙ sym (next l i h))
+
+  pub every-all : {b : Bool} (l : List ℕ) (i : ℕ) → length l ≤ i → b ≡ every p (take i l) → b ≡ every p l
+  every-all l i h e = e ∙ ap (λ (q : List ℕ). every p q) (take-all i l h)
+
+  every-at : (l : List ℕ) (i : ℕ) → every p l ≡ true → i < length l → p (getD l i 0) ≡ true
+  unfolding every
+  every-at [] i e h = absurd (omega arith)
+  every-at (x ∷ l) zero e h = and-left (p x) (every p l) e
+  every-at (x ∷ l) (suc i) e h = every-at l i (and-right (p x) (every p l) e) (omega arith)
+
+-- ---- the ids
+pub off : {built : ℕ} (ids : List ℕ) → built ≡ 0 → true ≡ freshIds built ids
+unfolding freshIds
+off ids e = rw e
+
+pub on : {built : ℕ} {b : Bool} (ids : List ℕ) → (built ≡ 0 → ⊥) → b ≡ every (λ id. ltb id built) ids → b ≡ freshIds built ids
+unfolding freshIds
+on {built} ids h e = rw (ne-eqb built 0 h) e
+
+-- ---- a study without fault
+fits-of : (r : Record) → faultOf r ≡ 0 → studyFits r ≡ true
+unfolding faultOf
+fits-of r e =
+    let size = first-none (sizeFits (r .nx) (r .ny) (r .nz)) 0 _ e in
+    let spacing = first-none (spacingsFit (r .spacings)) 1 _ (size .1) in
+    first-none (studyFits r) 2 0 (spacing .1) .0
+
+built-of : (r : Record) → studyFits r ≡ true → r .«built_count» ≤ r .«material_count»
+unfolding studyFits countsFit
+built-of r e =
+    let layer = layerFits (r .active) (r .«layer_on») in
+    let region = regionFits (r .region) (r .nx) (r .ny) (r .nz) in
+    let three = leb (r .«pole_slots») maxPoleSlots && leb 1 (r .«material_count») && leb (r .«material_count») maxMaterials in
+    let built = leb (r .«built_count») (r .«material_count») in
+    let none = eqb (poleCount r 0) 0 in
+    let counts = and-left (three && built && none) (polesFit r) (and-left (three && built && none && polesFit r) layer (and-left (three && built && none && polesFit r && layer) region e)) in
+    leb-true (r .«built_count») (r .«material_count») (and-right three built (and-left (three && built) none counts))
+
+or-right : (a b : Bool) → (a || b) ≡ true → a ≡ false → b ≡ true
+or-right a b e h = rw h at e
+
+region-of : (r : Record) → studyFits r ≡ true → isAbsent (r .region .kind) ≡ false → Corners (r .region) (r .nx) (r .ny) (r .nz)
+unfolding studyFits regionFits
+region-of r e h =
+    let layer = layerFits (r .active) (r .«layer_on») in
+    let region = isAbsent (r .region .kind) || cornersFit (r .region) (r .nx) (r .ny) (r .nz) in
+    corners-of (r .region) (r .nx) (r .ny) (r .nz) (or-right (isAbsent (r .region .kind)) _ (and-right (countsFit r && polesFit r && layer) region e) h)
+
+known-of : (r : Record) (ids : List ℕ) → studyFits r ≡ true → freshIds (r .«built_count») ids ≡ true → length ids ≡ cells r → eqb (r .«built_count») 0 ≡ false
+    → (m : ℕ) → m < cells r → getD ids m 0 < r .«material_count»
+unfolding freshIds
+known-of r ids e f l h m b =
+    let all = or-right (eqb (r .«built_count») 0) _ f h in
+    let low = ltb-true (getD ids m 0) (r .«built_count») (every-at (λ id. ltb id (r .«built_count»)) ids m all (omega arith)) in
+    let few = built-of r e in
+    omega arith
+
+pub left-is : (steps n m : ℕ) → steps ≤ lastStep → m ≡ lastStep - steps → leb n m ≡ leb (steps + n) lastStep
+left-is steps n m h e = go (leb n m) refl
+  where
+    go : (b : Bool) → leb n m ≡ b → leb n m ≡ leb (steps + n) lastStep
+    go true q = let low = leb-true n m q in q ∙ sym (le-leb (steps + n) lastStep (omega arith))
+    go false q = let high = leb-false n m q in q ∙ sym (lt-leb (steps + n) lastStep (omega arith))
+
+pub ready : (r : Record) (s : Stores) (n : ℕ) → stepFault r (lengthsOf s) (s .ids) n ≡ 0 → Ready r s × (r .clock .steps + n ≤ lastStep)
+unfolding stepFault storeLengths faultLent
+ready r s n e =
+    let four = or-none (faultWith r (lengthsOf s)) _ e in
+    let fresh = first-none (freshIds (r .«built_count») (s .ids)) 7 _ (four .1) in
+    let ticks = first-none (leb (r .clock .steps + n) lastStep) 10 0 (fresh .1) in
+    let fits = or-none (faultOf r) _ (four .0) in
+    let study = fits-of r (fits .0) in
+    let well = with-none r (lengthsOf s) (four .0) in
+    let l = well .1 in
+    let ids-long = ap (λ (x : Lengths). x .ids) l in (
+      record {
+        wavy = record {
+          sound = well .0;
+          corners = region-of r study;
+          stuff = ap (λ (x : Lengths). x .media) l;
+          wave = ap (λ (x : Lengths). x .aux) l;
+          field = ap (λ (x : Lengths). x .magnetic) l;
+        };
+        polar = record {
+          sound = well .0;
+          fit = fit-of r (fits .0);
+          known = known-of r (s .ids) study (fresh .0) ids-long;
+          numbered = ids-long;
+          field = ap (λ (x : Lengths). x .electric) l;
+          stored = ap (λ (x : Lengths). x .poles) l;
+        };
+        memory = (ap (λ (x : Lengths). x .«psi_e») l, ap (λ (x : Lengths). x .«psi_h») l, ap (λ (x : Lengths). x .tables) l);
+      },
+      leb-true (r .clock .steps + n) lastStep (ticks .0),
+    )

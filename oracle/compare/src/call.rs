@@ -1,0 +1,146 @@
+//! A call with its arguments, so that both sides can be handed the same one and a history printed.
+
+use std::fmt;
+
+use crate::engine::block::Material;
+use crate::engine::{Answer, Study};
+use crate::fill::Fill;
+
+/// Numbers that a printed history only counts.
+#[derive(Clone)]
+pub struct Numbers(pub Vec<f64>);
+
+impl fmt::Debug for Numbers {
+    fn fmt(&self, f: &mut fmt::Formatter) -> fmt::Result {
+        write!(f, "{} numbers", self.0.len())
+    }
+}
+
+/// Cells and corners are i0, i1, j0, j1, k0, k1.
+#[derive(Debug, Clone)]
+pub enum Call {
+    Open {
+        sizes: [usize; 3],
+        pole_slots: usize,
+        spacings: [f64; 4],
+    },
+    SetMaterial {
+        cells: [usize; 6],
+        numbers: [f64; 3],
+    },
+    AddMaterial(Material),
+    AssignBox {
+        id: u32,
+        cells: [usize; 6],
+    },
+    AssignHalfspace {
+        id: u32,
+        k0: usize,
+    },
+    BuildDispersion,
+    SetPeriodic([bool; 3]),
+    Periodic,
+    Conductor,
+    Lossy {
+        thickness: usize,
+        order: usize,
+        sigma_max: f64,
+    },
+    Cpml {
+        axes: [bool; 3],
+        thickness: usize,
+        given: Numbers,
+    },
+    Slab {
+        k0: usize,
+        k1: usize,
+    },
+    Injector {
+        k0: usize,
+    },
+    BoxRegion([usize; 6]),
+    Step(f64),
+    Run(Vec<f64>),
+    ResetFields,
+    TotalEnergy,
+    PlaneReading(usize),
+    /// No call: the caller writes into a store of its own.
+    Fill(Fill),
+    /// No call: the caller puts another number of steps into the block.
+    PutSteps(u32),
+    /// No call: the caller names other axes as active, in a block whose layer is on. That is how an
+    /// axis of few cells gets an active layer.
+    PutActive([bool; 3]),
+}
+
+impl Call {
+    /// The call's name, for counting.
+    pub fn name(&self) -> String {
+        let text = format!("{self:?}");
+        let end = text.find(|c: char| !c.is_alphanumeric());
+        text[..end.unwrap_or(text.len())].to_string()
+    }
+}
+
+impl Study {
+    /// Hands a call to the engine.
+    pub fn apply(&mut self, call: &Call) -> Answer {
+        let refusal = match call {
+            Call::Open {
+                sizes,
+                pole_slots,
+                spacings,
+            } => self.open(*sizes, *pole_slots, *spacings),
+            Call::SetMaterial { cells, numbers } => self.set_material(*cells, *numbers),
+            Call::AddMaterial(m) => {
+                return self.counted(|study, id| study.add_material(&m.write(), id));
+            }
+            Call::AssignBox { id, cells } => self.assign_material_box(*id, *cells),
+            Call::AssignHalfspace { id, k0 } => self.assign_material_halfspace_z(*id, *k0),
+            Call::BuildDispersion => self.build_dispersion(),
+            Call::SetPeriodic(axes) => self.set_periodic(*axes),
+            Call::Periodic => self.set_boundary_periodic(),
+            Call::Conductor => self.set_boundary_conductor(),
+            Call::Lossy {
+                thickness,
+                order,
+                sigma_max,
+            } => self.set_boundary_lossy(*thickness, *order, *sigma_max),
+            Call::Cpml {
+                axes,
+                thickness,
+                given,
+            } => {
+                return self.counted(|study, active| {
+                    study.set_boundary_cpml(*axes, *thickness, &given.0, active)
+                });
+            }
+            Call::Slab { k0, k1 } => self.slab_z(*k0, *k1),
+            Call::Injector { k0 } => self.injector_z(*k0),
+            Call::BoxRegion(corners) => self.box_region(*corners),
+            Call::Step(sample) => self.step(*sample),
+            Call::Run(samples) => self.run(samples),
+            Call::ResetFields => self.reset_fields(),
+            Call::TotalEnergy => return self.read(|study, energy| study.total_energy(energy)),
+            Call::PlaneReading(k) => {
+                return self.read(|study, reading| study.plane_reading(*k, reading));
+            }
+            Call::Fill(fill) => {
+                fill.write(self);
+                0
+            }
+            Call::PutSteps(steps) => {
+                self.put_steps(*steps);
+                0
+            }
+            Call::PutActive(axes) => {
+                self.put_active(*axes);
+                0
+            }
+        };
+        Answer {
+            refusal,
+            further: 0.0,
+        }
+    }
+}

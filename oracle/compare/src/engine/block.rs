@@ -1,0 +1,217 @@
+//! The study record as the block's bytes, both ways. The header has the table of offsets.
+
+pub const LENGTH: usize = 2073;
+pub const HEAD: usize = 73;
+pub const MATERIAL: usize = 125;
+pub const MATERIALS: usize = 16;
+pub const PLACES: usize = 4;
+/// Where the active flags and the steps stand.
+pub const ACTIVE: usize = 9;
+pub const STEPS: usize = 69;
+/// Where doubles stand in the head, and in a material up to its first place.
+pub const DOUBLES: [usize; 5] = [29, 37, 45, 53, 61];
+
+const NAN: u64 = 0x7FF8_0000_0000_0000;
+
+/// A pole as its tag (1 Lorentz, 2 Drude, 3 Debye) and three numbers.
+#[derive(Debug, Clone, PartialEq)]
+pub struct Pole {
+    pub tag: u8,
+    pub numbers: [f64; 3],
+}
+
+/// A material. There are places for four poles; a larger count is written as it is.
+#[derive(Debug, Clone, PartialEq)]
+pub struct Material {
+    pub eps_inf: f64,
+    pub sigma: f64,
+    pub mu_r: f64,
+    pub pole_count: u8,
+    pub poles: Vec<Pole>,
+}
+
+/// The region's kind (0 none, 1 slab, 2 injector, 3 box) and i0, i1, j0, j1, k0, k1.
+#[derive(Debug, Clone, Copy, PartialEq)]
+pub struct Region {
+    pub kind: u8,
+    pub corners: [usize; 6],
+}
+
+#[derive(Debug, Clone)]
+pub struct Record {
+    pub sizes: [usize; 3],
+    pub periodic: [bool; 3],
+    pub active: [bool; 3],
+    pub layer_on: bool,
+    pub built_count: u8,
+    pub pole_slots: u8,
+    pub material_count: u8,
+    pub region: Region,
+    pub spacings: [f64; 4],
+    pub time: f64,
+    pub steps: u32,
+    /// The counted ones, 16 at most.
+    pub materials: Vec<Material>,
+}
+
+/// Takes numbers off the front of bytes; what cannot be in a block makes `fine` false.
+struct Reader<'a> {
+    bytes: &'a [u8],
+    fine: bool,
+}
+
+impl Reader<'_> {
+    fn number(&mut self, width: usize) -> u64 {
+        let (here, rest) = self.bytes.split_at(width);
+        self.bytes = rest;
+        here.iter().rev().fold(0, |n, b| n << 8 | u64::from(*b))
+    }
+
+    fn flag(&mut self) -> bool {
+        let n = self.number(1);
+        self.fine &= n <= 1;
+        n == 1
+    }
+
+    /// The one NaN is the only one that may stand in a block.
+    fn double(&mut self) -> f64 {
+        let bits = self.number(8);
+        let x = f64::from_bits(bits);
+        self.fine &= !x.is_nan() || bits == NAN;
+        x
+    }
+
+    fn pole(&mut self, counted: bool) -> Pole {
+        let tag = self.number(1) as u8;
+        let numbers = [self.double(), self.double(), self.double()];
+        let zeros = numbers.map(|x| x.to_bits() == 0);
+        self.fine &= match (counted, tag) {
+            (false, _) => tag == 0 && zeros == [true; 3],
+            (true, 1) => true,
+            (true, 2 | 3) => zeros[2],
+            _ => false,
+        };
+        Pole { tag, numbers }
+    }
+
+    fn material(&mut self) -> Material {
+        let (eps_inf, sigma, mu_r) = (self.double(), self.double(), self.double());
+        let pole_count = self.number(1) as u8;
+        let mut poles: Vec<Pole> = (0..PLACES)
+            .map(|place| self.pole(place < usize::from(pole_count)))
+            .collect();
+        poles.truncate(usize::from(pole_count));
+        Material {
+            eps_inf,
+            sigma,
+            mu_r,
+            pole_count,
+            poles,
+        }
+    }
+
+    fn head(&mut self) -> Record {
+        let sizes = [0; 3].map(|_: usize| self.number(2) as usize);
+        let periodic = [0; 3].map(|_| self.flag());
+        let active = [0; 3].map(|_| self.flag());
+        let layer_on = self.flag();
+        let [built_count, pole_slots, material_count, kind] = [0; 4].map(|_| self.number(1) as u8);
+        let corners = [0; 6].map(|_: usize| self.number(2) as usize);
+        self.fine &= kind <= 3 && (kind != 0 || corners == [0; 6]);
+        Record {
+            sizes,
+            periodic,
+            active,
+            layer_on,
+            built_count,
+            pole_slots,
+            material_count,
+            region: Region { kind, corners },
+            spacings: [0; 4].map(|_| self.double()),
+            time: self.double(),
+            steps: self.number(4) as u32,
+            materials: Vec::new(),
+        }
+    }
+}
+
+/// A material's bytes read; none where they are no material's.
+pub fn read_material(bytes: &[u8]) -> Option<Material> {
+    if bytes.len() != MATERIAL {
+        return None;
+    }
+    let mut reader = Reader { bytes, fine: true };
+    let material = reader.material();
+    reader.fine.then_some(material)
+}
+
+impl Record {
+    /// The record in a block; none where the block is no record. Whether the record agrees with
+    /// itself is another question: `judge` answers it.
+    pub fn read(block: &[u8]) -> Option<Record> {
+        if block.len() != LENGTH {
+            return None;
+        }
+        let (bytes, entries) = block.split_at(HEAD);
+        let mut reader = Reader { bytes, fine: true };
+        let mut record = reader.head();
+        for (i, entry) in entries.chunks(MATERIAL).enumerate() {
+            if i < usize::from(record.material_count) {
+                record.materials.push(read_material(entry)?);
+            } else {
+                reader.fine &= entry.iter().all(|b| *b == 0);
+            }
+        }
+        reader.fine.then_some(record)
+    }
+
+    pub fn write(&self) -> Vec<u8> {
+        let mut out = Vec::with_capacity(LENGTH);
+        for n in self.sizes {
+            out.extend((n as u16).to_le_bytes());
+        }
+        out.extend(self.periodic.map(u8::from));
+        out.extend(self.active.map(u8::from));
+        let counts = [self.built_count, self.pole_slots, self.material_count];
+        out.push(u8::from(self.layer_on));
+        out.extend(counts);
+        out.push(self.region.kind);
+        for n in self.region.corners {
+            out.extend((n as u16).to_le_bytes());
+        }
+        for x in self.spacings.into_iter().chain([self.time]) {
+            out.extend(double(x));
+        }
+        out.extend(self.steps.to_le_bytes());
+        for material in &self.materials {
+            out.extend(material.write());
+        }
+        out.resize(LENGTH, 0);
+        out
+    }
+
+    pub fn cells(&self) -> usize {
+        self.sizes.iter().product()
+    }
+}
+
+impl Material {
+    pub fn write(&self) -> Vec<u8> {
+        let mut out = Vec::with_capacity(MATERIAL);
+        for x in [self.eps_inf, self.sigma, self.mu_r] {
+            out.extend(double(x));
+        }
+        out.push(self.pole_count);
+        for pole in self.poles.iter().take(PLACES) {
+            out.push(pole.tag);
+            out.extend(pole.numbers.into_iter().flat_map(double));
+        }
+        out.resize(MATERIAL, 0);
+        out
+    }
+}
+
+fn double(x: f64) -> [u8; 8] {
+    let bits = if x.is_nan() { NAN } else { x.to_bits() };
+    bits.to_le_bytes()
+}

@@ -1,0 +1,361 @@
+//! What each call turns down, by document 01, and that a refused call changes nothing.
+
+mod standing;
+
+use compare::call::{Call, Numbers};
+use compare::difference::untouched;
+use compare::engine::Study;
+use compare::engine::block::{self, Record};
+use compare::judge::*;
+use compare::{EDGES, Random, SIGN, report};
+use standing::{SIZES, SLOTS, SPACINGS, calls, material, study, tables};
+
+/// Hands a call to a copy of the study: the refusal is the one that is due, and then nothing has
+/// changed and the further answer is 0.
+fn due(study: &Study, call: &Call, refusal: u32) {
+    let mut after = study.clone();
+    let answer = after.apply(call);
+    assert_eq!(answer.refusal, refusal, "{call:?}");
+    if refusal != 0 {
+        assert!(untouched(study, &after), "{call:?} refused, and written");
+        assert_eq!(answer.further.to_bits(), 0, "{call:?}");
+    } else {
+        assert!(after.record().is_some(), "{call:?} left no record");
+    }
+}
+
+fn judged(study: &Study, call: &Call) -> u32 {
+    let number = refusal(study, call);
+    due(study, call, number);
+    number
+}
+
+#[test]
+fn every_call_is_accepted() {
+    for call in calls() {
+        due(&study(), &call, 0);
+    }
+}
+
+#[test]
+fn stores_of_another_length() {
+    for call in calls() {
+        for store in 0..9 {
+            let right = lengths(SIZES, SLOTS)[store];
+            for length in [0, right - 1, right + 1] {
+                let mut study = study();
+                if store == 8 {
+                    study.ids.resize(length, 0);
+                } else {
+                    study.stores_mut()[store].resize(length, 1.5);
+                }
+                let wrong = lent(&call).contains(&store);
+                due(&study, &call, if wrong { BAD_STORE } else { 0 });
+            }
+        }
+    }
+    for length in [0, 1, 53, 55] {
+        let given = Numbers(vec![0.5; length]);
+        let call = Call::Cpml {
+            axes: [true; 3],
+            thickness: 1,
+            given,
+        };
+        due(&study(), &call, BAD_STORE);
+    }
+}
+
+#[test]
+fn blocks_of_another_length() {
+    for call in calls() {
+        for length in [0, 1, block::HEAD, block::LENGTH - 1, block::LENGTH + 1] {
+            let mut study = study();
+            study.block.resize(length, 0);
+            due(&study, &call, BAD_STUDY);
+        }
+    }
+}
+
+/// Every byte of the block in turn, with a bit turned or any value; then a call.
+#[test]
+fn blocks_with_a_byte_changed() {
+    let (standing, calls) = (study(), calls());
+    let mut random = Random::new(1975);
+    let (mut tried, mut refused) = (0, 0);
+    for at in 0..block::LENGTH {
+        for turn in 0..12 {
+            let mut study = standing.clone();
+            study.block[at] = match turn {
+                0..8 => study.block[at] ^ 1 << turn,
+                _ => random.bits() as u8,
+            };
+            let call = &calls[random.index(calls.len())];
+            refused += u32::from(judged(&study, call) != 0);
+            tried += 1;
+        }
+    }
+    report(&format!(
+        "blocks with a byte changed: {tried} calls, {refused} refused, each as it is due"
+    ));
+    assert!(refused > tried / 2 && refused < tried);
+}
+
+/// The places of a block's doubles.
+fn doubles() -> Vec<usize> {
+    let mut places = block::DOUBLES.to_vec();
+    for m in 0..block::MATERIALS {
+        let entry = block::HEAD + block::MATERIAL * m;
+        places.extend([0, 8, 16].map(|at| entry + at));
+        for place in 0..block::PLACES {
+            places.extend([0, 8, 16].map(|at| entry + 26 + 25 * place + at));
+        }
+    }
+    places
+}
+
+/// Every double of the block in turn, at the edges of the format: of the NaNs one may stand there.
+#[test]
+fn blocks_with_an_odd_double() {
+    let (standing, calls) = (study(), calls());
+    let mut random = Random::new(1981);
+    for at in doubles() {
+        for bits in EDGES.into_iter().flat_map(|b| [b, b | SIGN]) {
+            let mut study = standing.clone();
+            study.block[at..at + 8].copy_from_slice(&bits.to_le_bytes());
+            let nan = f64::from_bits(bits).is_nan() && bits != 0x7FF8_0000_0000_0000;
+            let call = &calls[1 + random.index(calls.len() - 1)];
+            let number = judged(&study, call);
+            assert!(!nan || number == BAD_STUDY, "{bits:016X} at {at}");
+        }
+    }
+}
+
+/// A record with some of its fields out of range, or at the end of it.
+fn broken(record: &mut Record, random: &mut Random) {
+    let small = [0, 1, 2, 3, 4, 5, 15, 16, 17, 255];
+    let pick = |random: &mut Random| small[random.index(small.len())];
+    for _ in 0..1 + random.below(3) {
+        let axis = random.index(3);
+        match random.below(12) {
+            0 => record.sizes[axis] = [0, 1, 512, 513, 65535][random.index(5)],
+            1 => record.spacings[random.index(4)] = random.odd(),
+            2 => record.pole_slots = pick(random),
+            3 => record.built_count = pick(random),
+            4 => record.layer_on = !record.layer_on,
+            5 => record.active[axis] = !record.active[axis],
+            6 => record.region.corners[random.index(6)] = random.index(6),
+            7 => record.region.kind = pick(random),
+            8 => record.steps = u32::MAX,
+            9 => record.material_count = pick(random),
+            10 => record.materials[random.index(4)] = material(&[3, 2, 1][..random.index(4)]),
+            _ => record.time = random.odd(),
+        }
+    }
+}
+
+#[test]
+fn records_that_contradict_themselves() {
+    let (standing, calls) = (study(), calls());
+    let record = standing.record().unwrap();
+    let mut random = Random::new(1994);
+    let mut counts = [0; 18];
+    for _ in 0..20_000 {
+        let mut study = standing.clone();
+        let mut record = record.clone();
+        broken(&mut record, &mut random);
+        study.block = record.write();
+        counts[judged(&study, &calls[random.index(calls.len())]) as usize] += 1;
+    }
+    report(&format!("contradicting records: answers {counts:?}"));
+    assert!([0, 1, 2, 3, 4, 8, 11].iter().all(|n| counts[*n] > 0));
+}
+
+/// Whole blocks of any bytes; nearly all have a flag that is none.
+#[test]
+fn blocks_of_any_bytes() {
+    let mut random = Random::new(2000);
+    for call in calls() {
+        for _ in 0..100 {
+            let mut study = study();
+            study.block.fill_with(|| random.bits() as u8);
+            judged(&study, &call);
+        }
+    }
+}
+
+fn open(sizes: [usize; 3], pole_slots: usize, spacings: [f64; 4]) -> Call {
+    Call::Open {
+        sizes,
+        pole_slots,
+        spacings,
+    }
+}
+
+#[test]
+fn openings() {
+    let standing = study();
+    for axis in 0..3 {
+        for n in [0, 513, 1 << 16, 1 << 32, 1 << 63, usize::MAX] {
+            let mut sizes = SIZES;
+            sizes[axis] = n;
+            due(&standing, &open(sizes, SLOTS, SPACINGS), BAD_SIZE);
+            due(&standing, &open(sizes, 5, [0.0; 4]), BAD_SIZE);
+        }
+    }
+    due(&standing, &open([512, 512, 5], SLOTS, SPACINGS), BAD_SIZE);
+    due(&standing, &open([512, 512, 4], SLOTS, SPACINGS), BAD_STORE);
+    let odd = [0.0, -0.0, -1.0, f64::INFINITY, f64::NEG_INFINITY, f64::NAN];
+    for (at, x) in (0..4).flat_map(|at| odd.map(|x| (at, x))) {
+        let mut spacings = SPACINGS;
+        spacings[at] = x;
+        due(&standing, &open(SIZES, SLOTS, spacings), BAD_SPACING);
+        due(&standing, &open(SIZES, 5, spacings), BAD_SPACING);
+    }
+    for slots in [5, 256, 257, usize::MAX] {
+        due(&standing, &open(SIZES, slots, SPACINGS), BAD_STUDY);
+    }
+    due(&standing, &open(SIZES, SLOTS + 1, SPACINGS), BAD_STORE);
+    let mut blank = standing;
+    blank.block.fill(0xFF);
+    due(&blank, &standing::opening(), 0);
+}
+
+#[test]
+fn refusals_of_single_calls() {
+    let mut full = study();
+    let [few, many] = [material(&[3]), material(&[1, 2, 3])].map(Call::AddMaterial);
+    due(&full, &many, TOO_MANY_POLES);
+    while full.record().unwrap().material_count < 16 {
+        assert_eq!(full.apply(&few).refusal, 0);
+    }
+    due(&full, &few, FULL);
+    due(&full, &many, TOO_MANY_POLES);
+
+    let standing = study();
+    let nowhere = [0; 6];
+    for id in [4, 5, 16, u32::MAX] {
+        let cells = nowhere;
+        due(&standing, &Call::AssignBox { id, cells }, NO_SUCH_MATERIAL);
+        due(
+            &standing,
+            &Call::AssignHalfspace { id, k0: 9 },
+            NO_SUCH_MATERIAL,
+        );
+    }
+    for order in [9, 10, 1 << 32, usize::MAX] {
+        let (thickness, sigma_max) = (0, 1.0);
+        let call = Call::Lossy {
+            thickness,
+            order,
+            sigma_max,
+        };
+        due(&standing, &call, BAD_ORDER);
+    }
+    for k in [4, 5, 1 << 32, usize::MAX] {
+        due(&standing, &Call::PlaneReading(k), NO_SUCH_PLANE);
+        due(&standing, &Call::Injector { k0: k }, BAD_REGION);
+        due(&standing, &Call::Slab { k0: 0, k1: k }, BAD_REGION);
+        due(&standing, &Call::BoxRegion([0, 0, 0, 0, 0, k]), BAD_REGION);
+    }
+    due(&standing, &Call::Slab { k0: 2, k1: 1 }, BAD_REGION);
+    due(&standing, &Call::BoxRegion([1, 0, 0, 0, 0, 0]), BAD_REGION);
+    due(&standing, &Call::BoxRegion([0, 2, 0, 0, 0, 0]), BAD_REGION);
+    due(&standing, &Call::BoxRegion([0, 0, 2, 1, 0, 0]), BAD_REGION);
+    due(&standing, &Call::BoxRegion([0, 0, 0, 3, 0, 0]), BAD_REGION);
+}
+
+/// A material that was added after dispersion was built comes before a spent clock.
+#[test]
+fn refusals_of_a_step() {
+    let steps = [Call::Step(1.0), Call::Run(vec![1.0; 3])];
+    for call in &steps {
+        let mut late = study();
+        late.put_steps(u32::MAX);
+        due(&late, call, SPENT_CLOCK);
+        for id in [3, 4, 16, u32::MAX] {
+            *late.ids.last_mut().unwrap() = id;
+            due(&late, call, STALE_MATERIAL);
+        }
+    }
+}
+
+/// A run is taken whole or not at all: one step more than the clock has left is refused before the first is taken.
+#[test]
+fn a_run_into_the_last_step() {
+    let mut standing = study();
+    standing.put_steps(u32::MAX - 2);
+    due(&standing, &Call::Run(vec![1.0; 3]), SPENT_CLOCK);
+    let (mut whole, mut single) = (standing.clone(), standing);
+    assert_eq!(whole.run(&[1.0, 2.0]), 0);
+    assert_eq!([1.0, 2.0].map(|x| single.step(x)), [0, 0]);
+    assert!(compare::difference::first_difference(&single, &whole).is_none());
+    assert_eq!(whole.record().unwrap().steps, u32::MAX);
+}
+
+/// A run of no steps changes nothing, and a study that a step would refuse is refused by it too.
+#[test]
+fn a_run_of_no_steps() {
+    let standing = study();
+    let mut idle = standing.clone();
+    assert_eq!(idle.run(&[]), 0);
+    assert!(untouched(&standing, &idle));
+    let mut stale = study();
+    stale.ids[0] = u32::MAX;
+    due(&stale, &Call::Run(vec![]), STALE_MATERIAL);
+}
+
+/// A further answer goes into the first place of its room alone, if there is one.
+#[test]
+fn room_for_a_further_answer() {
+    let standing = study();
+    for length in 0..3 {
+        let mut study = standing.clone();
+        let (mut id, mut active) = (vec![7; length], vec![7; length]);
+        assert_eq!(study.add_material(&material(&[]).write(), &mut id), 0);
+        assert_eq!(id, [4, 7][..length]);
+        let given = tables().0;
+        assert_eq!(
+            study.set_boundary_cpml([true; 3], 1, &given, &mut active),
+            0
+        );
+        assert_eq!(active, [4, 7][..length]);
+
+        let mut numbers = vec![7.0; length];
+        assert_eq!(study.plane_reading(9, &mut numbers), NO_SUCH_PLANE);
+        assert_eq!(numbers, [0.0, 7.0][..length]);
+        assert_eq!(study.apply(&standing::opening()).refusal, 0);
+        let mut numbers = vec![7.0; length];
+        assert_eq!(study.total_energy(&mut numbers), 0);
+        assert_eq!(numbers, [0.0, 7.0][..length]);
+    }
+}
+
+/// Bytes that are no material's are refused as a block that is no record is.
+#[test]
+fn bytes_that_are_no_material() {
+    let good = material(&[3]).write();
+    let mut all = vec![Vec::new(), good[1..].to_vec(), [&good[..], &[0]].concat()];
+    for (at, value) in [
+        (25, 0),
+        (25, 4),
+        (50, 1),
+        (51, 1),
+        (42, 1),
+        (124, 9),
+        (6, 0xF9),
+    ] {
+        let mut bytes = good.clone();
+        bytes[at] = value;
+        if at == 6 {
+            bytes[7] = 0x7F;
+        }
+        all.push(bytes);
+    }
+    for bytes in all {
+        let standing = study();
+        let mut after = standing.clone();
+        let mut id = [7];
+        assert_eq!(after.add_material(&bytes, &mut id), BAD_STUDY);
+        assert!(untouched(&standing, &after) && id == [0]);
+    }
+}

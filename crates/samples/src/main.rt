@@ -1,4 +1,6 @@
 // The sample studies of document 01 that are not in the theorem, run and compared with what the document says.
+pub mod waves;
+
 ghost use mathlib.Core.Path.{_≡_};
 ghost use Prim.Native.Nat.{_*_};
 ghost use lib.ListN.{length};
@@ -183,4 +185,8 @@ fn main() {
     say(b"n 24, thickness 12 inactive", !active_on_z(r, 12));
     say(b"all twelve memories cleared", memories_cleared(r));
     say(b"lossy, n 1, sigma kept", sigma_kept(one_cell()));
+    say(
+        b"a wave's line after one step and two",
+        waves::wave_sent(3.0, 0.5),
+    );
 }

@@ -5,6 +5,7 @@ ghost use lib.ListN.{length};
 ghost use Rattle.cells.specs.Blocks.{on};
 ghost use Rattle.tfsf.specs.Corrections.{sideFaces, upperFace, correctH, correctE};
 ghost use Rattle.tfsf.specs.Faces.{addRow, addPlane, addBox, turned, factorOf, denominatorOf, addendH, addendE, addend, addends, faceDone, Fits, Ready, Low, halfEnd, zBox, yBox, xBox, hyLowerFace, hyUpperFace, hzLowerFace, hzUpperFace, exLowerFace, exUpperFace, ezLowerFace, ezUpperFace};
+use crate::index_before;
 use crate::line::PAD;
 use cells::IndexBox;
 use grid::Record;
@@ -162,16 +163,6 @@ pub fn upper_face(k: RegionKind) -> bool
     }
 }
 
-// 0 for 0: a face at index 0 is not there.
-fn below(a: usize) -> usize
-    ensures { λ r. ⌜ r ≡ a - 1 ⌝ }
-{
-    if a == 0 {
-        return 0;
-    }
-    a - 1
-}
-
 // Where a span of numbers that lie half a cell up ends.
 fn half_end(closed: bool, last: usize) -> usize
     requires { ⌜ last ≤ 512 ⌝ }
@@ -230,7 +221,7 @@ fn hy_lower(g: Region, s: Spacings, n: usize) -> Face
     requires { ⌜ Low g ⌝ }
     ensures { λ f. ⌜ f ≡ hyLowerFace g s n ⌝ }
 {
-    let b = z_box(g, below(g.k0), g.k0);
+    let b = z_box(g, index_before(g.k0), g.k0);
     Face {
         there: 1 <= g.k0,
         at: n,
@@ -262,7 +253,7 @@ fn hz_lower(g: Region, s: Spacings, n: usize) -> Face
     ensures { λ f. ⌜ f ≡ hzLowerFace g s n ⌝ }
 {
     let kind = g.kind;
-    let b = y_box(g, below(g.j0), g.j0);
+    let b = y_box(g, index_before(g.j0), g.j0);
     Face {
         there: side_faces(kind) & (1 <= g.j0),
         at: 2 * n,

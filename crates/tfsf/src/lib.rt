@@ -2,3 +2,16 @@
 pub mod corrections;
 pub mod line;
 pub mod region;
+
+ghost use mathlib.Core.Path.{_≡_};
+ghost use Prim.Native.Nat.{_-_};
+
+// The index before n, which is the last of n, and 0 where there is none.
+fn index_before(n: usize) -> usize
+    ensures { λ i. ⌜ i ≡ n - 1 ⌝ }
+{
+    if n == 0 {
+        return 0;
+    }
+    n - 1
+}

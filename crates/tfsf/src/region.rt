@@ -1,10 +1,10 @@
 // The total-field region set as a slab, an injector or a box.
 ghost use mathlib.Core.Path.{_≡_};
-ghost use Prim.Native.Nat.{_-_};
 ghost use Rattle.grid.specs.declared.RegionKind.the-variants.{BoxRegion};
 ghost use Rattle.grid.specs.Edited.{withRegion};
 ghost use Rattle.grid.specs.Stores.{outcome};
 ghost use Rattle.tfsf.specs.Wave.{slabZ, injectorZ, regionFault, restarted, regionCall};
+use crate::index_before;
 use grid::Answer;
 use grid::Clock;
 use grid::Record;
@@ -14,16 +14,6 @@ use grid::fault;
 use grid::stores;
 
 pub const BAD_REGION: u32 = 9;
-
-// The last of n indices, 0 where there is none.
-fn last(n: usize) -> usize
-    ensures { λ i. ⌜ i ≡ n - 1 ⌝ }
-{
-    if n == 0 {
-        return 0;
-    }
-    n - 1
-}
 
 fn region_fault(r: Record, g: Region, aux: usize) -> u32
     ensures { λ n. ⌜ n ≡ regionFault r g aux ⌝ }
@@ -72,9 +62,9 @@ pub fn slab_z(r: Record, k0: usize, k1: usize, aux: &mut [f64]) -> Answer
     let g = Region {
         kind: RegionKind::SlabZ,
         i0: 0,
-        i1: last(r.nx),
+        i1: index_before(r.nx),
         j0: 0,
-        j1: last(r.ny),
+        j1: index_before(r.ny),
         k0,
         k1,
     };
@@ -88,11 +78,11 @@ pub fn injector_z(r: Record, k0: usize, aux: &mut [f64]) -> Answer
     let g = Region {
         kind: RegionKind::InjectorZ,
         i0: 0,
-        i1: last(r.nx),
+        i1: index_before(r.nx),
         j0: 0,
-        j1: last(r.ny),
+        j1: index_before(r.ny),
         k0,
-        k1: last(r.nz),
+        k1: index_before(r.nz),
     };
     set_region(r, g, aux)
 }

@@ -10,7 +10,7 @@ returns : tie.Need-returns
 unfolding hyLowerFace
 returns c =
     let a = c .before .before .before .args in
-    face-same refl (c .before .z-box .ensures ∙ ap (λ (k : ℕ). zBox (a .g) k (a .g .k0)) (c .before .before .below .ensures))
+    face-same refl (c .before .z-box .ensures ∙ ap (λ (k : ℕ). zBox (a .g) k (a .g .k0)) (c .before .before .index-before .ensures))
 
 pub hy-lower-spec : {M : Type 1} → statement M
 hy-lower-spec = tie.close (tie.spec (λ c κs. tt) (λ c κs. c .before .pre) (λ c. omega arith) returns)

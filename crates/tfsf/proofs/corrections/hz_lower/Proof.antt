@@ -13,7 +13,7 @@ unfolding hzLowerFace
 returns c =
     let a = c .before .before .before .before .args in
     face-same (ap (λ (b : Bool). b && leb 1 (a .g .j0)) (c .before .side-faces .ensures))
-    (c .before .before .y-box .ensures ∙ ap (λ (j : ℕ). yBox (a .g) j (a .g .j0)) (c .before .before .before .below .ensures))
+    (c .before .before .y-box .ensures ∙ ap (λ (j : ℕ). yBox (a .g) j (a .g .j0)) (c .before .before .before .index-before .ensures))
 
 pub hz-lower-spec : {M : Type 1} → statement M
 hz-lower-spec = tie.close (tie.spec (λ c κs. tt) (λ c κs. c .before .pre .0) (λ c κs. tt) (λ c. omega arith) returns)

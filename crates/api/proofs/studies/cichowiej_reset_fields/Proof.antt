@@ -26,10 +26,10 @@ cichowiej-reset-fields-spec =
     get-record-requires
     (λ c κs. search needs)
     keep-requires
-    (λ c. search needs)
-    (λ c. search needs)
-    (λ c. search needs)
-    (λ c. search needs)
-    (λ c. search needs)
-    (λ c. search needs)
+    (λ c. c .before .before .keep .kept .0)
+    (λ c. c .before .before .before .before .before .before .before .before .before .before .before .before .before .before .reset-fields .kept .1 .0)
+    (λ c. c .before .before .before .before .before .before .before .before .before .before .before .before .before .before .reset-fields .kept .1 .1 .0)
+    (λ c. c .before .before .before .before .before .before .before .before .before .before .before .before .before .before .reset-fields .kept .1 .1 .1 .0)
+    (λ c. c .before .before .before .before .before .before .before .before .before .before .before .before .before .before .reset-fields .kept .1 .1 .1 .1 .0)
+    (λ c. c .before .before .before .before .before .before .before .before .before .before .before .before .before .before .reset-fields .kept .1 .1 .1 .1 .1 .0)
     returns-2)

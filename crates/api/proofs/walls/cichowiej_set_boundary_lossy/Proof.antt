@@ -26,9 +26,9 @@ cichowiej-set-boundary-lossy-spec =
     get-record-requires
     (λ c κs. search needs)
     keep-requires
-    (λ c. search needs)
-    (λ c. search needs)
-    (λ c. search needs)
-    (λ c. search needs)
-    (λ c. search needs)
+    (λ c. c .before .before .keep .kept .0)
+    (λ c. c .before .before .before .before .before .before .before .before .before .before .before .before .set-boundary-lossy .kept .1 .1 .0)
+    (λ c. c .before .before .before .before .before .before .before .before .before .before .before .before .set-boundary-lossy .kept .1 .1 .1 .0)
+    (λ c. c .before .before .before .before .before .before .before .before .before .before .before .before .set-boundary-lossy .kept .1 .1 .1 .1 .0)
+    (λ c. c .before .before .before .before .before .before .before .before .before .before .before .before .set-boundary-lossy .kept .1 .1 .1 .1 .1 .0)
     returns-2)

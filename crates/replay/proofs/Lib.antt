@@ -1,0 +1,2 @@
+-- Laws of replay.
+pub mod Counting

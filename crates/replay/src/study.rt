@@ -1,0 +1,303 @@
+// One study: read, run, and compared with its answers.
+ghost use mathlib.Core.Path.{_≡_};
+ghost use mathlib.Core.Bool.{_&&_, cond};
+ghost use Prim.Native.Nat.{_≤_, min};
+ghost use lib.Dec.{eqb};
+ghost use lib.ListN.{length};
+ghost use Rattle.replay.specs.Apart.{apart, pattern, together};
+use super::differ::bytes_apart;
+use super::differ::floats_apart;
+use super::differ::plus;
+use super::input;
+use super::input::Counts;
+use super::input::LONGEST;
+use grid::Record;
+
+// What came of a study. Where it is not whole the list does not hold it, and the rest is 0.
+pub struct Outcome {
+    pub whole: bool,
+    pub refusal: u32,
+    pub nx: usize,
+    pub ny: usize,
+    pub nz: usize,
+    pub steps: usize,
+    pub numbers: u64,
+    pub apart: u64,
+}
+
+// Answers that were read beside numbers: whether all were there, how many they were, and at how many places they differ.
+struct Seen {
+    whole: bool,
+    numbers: u64,
+    apart: u64,
+}
+
+fn no_study() -> Outcome {
+    Outcome {
+        whole: false,
+        refusal: 0,
+        nx: 0,
+        ny: 0,
+        nz: 0,
+        steps: 0,
+        numbers: 0,
+        apart: 0,
+    }
+}
+
+fn joined(a: Seen, b: Seen) -> Seen
+    ensures { λ r. ⌜ (r .whole ≡ (a .whole && b .whole)) × (r .numbers ≡ together (a .numbers) (b .numbers)) × (r .apart ≡ together (a .apart) (b .apart)) ⌝ }
+{
+    Seen {
+        whole: a.whole & b.whole,
+        numbers: plus(a.numbers, b.numbers),
+        apart: plus(a.apart, b.apart),
+    }
+}
+
+// Answers are read into b, and compared.
+fn see_into(xs: &[f64], b: &mut [f64]) -> Seen
+    requires { ⌜ length (now xs) ≡ length (now b) ⌝ }
+    ensures { λ r. ⌜ (r .numbers ≡ length (now (xs .entry))) × (r .apart ≡ apart (length (now (xs .entry))) (pattern (now (xs .entry))) (pattern (now (b .exit)))) ⌝ }
+{
+    let whole = input::read_floats(b);
+    let apart = floats_apart(xs, b);
+    Seen {
+        whole,
+        numbers: xs.len() as u64,
+        apart: apart as u64,
+    }
+}
+
+// As many answers as there are numbers.
+fn see_floats(xs: &[f64]) -> Seen {
+    let n = xs.len();
+    if LONGEST < n {
+        return Seen {
+            whole: false,
+            numbers: 0,
+            apart: 0,
+        };
+    }
+    let mut b = [0.0; 864];
+    see_into(xs, &mut b[0..n])
+}
+
+// Two stores, one after the other.
+fn see_two(a: &[f64], b: &[f64]) -> Seen {
+    let first = see_floats(a);
+    let second = see_floats(b);
+    joined(first, second)
+}
+
+// The block of a record beside the one that is answered.
+fn see_block(r: Record) -> Seen {
+    let mut a = [0u8; 2073];
+    let mut b = [0u8; 2073];
+    block::put_record(&mut a, r);
+    let whole = input::read_bytes(&mut b);
+    let apart = bytes_apart(&a, &b);
+    Seen {
+        whole,
+        numbers: 0,
+        apart: apart as u64,
+    }
+}
+
+// Where a study was refused, every number is apart.
+fn counted(refusal: u32, apart: u64, numbers: u64) -> u64
+    ensures { λ r. ⌜ r ≡ cond (eqb refusal 0) apart numbers ⌝ }
+{
+    if refusal == 0 {
+        return apart;
+    }
+    numbers
+}
+
+// What is said of a study, all of which was read where `whole` is true.
+fn told(whole: bool, refusal: u32, r: Record, steps: usize, s: Seen) -> Outcome
+    ensures { λ o. ⌜ (o .whole ≡ (whole && s .whole)) × (o .numbers ≡ s .numbers) × (o .apart ≡ cond (eqb refusal 0) (s .apart) (s .numbers)) ⌝ }
+{
+    let apart = counted(refusal, s.apart, s.numbers);
+    Outcome {
+        whole: whole & s.whole,
+        refusal,
+        nx: r.nx,
+        ny: r.ny,
+        nz: r.nz,
+        steps,
+        numbers: s.numbers,
+        apart,
+    }
+}
+
+// The nine stores, and the samples.
+fn read_stores(
+    samples: &mut [f64],
+    e: &mut [f64],
+    h: &mut [f64],
+    media: &mut [f64],
+    psi_e: &mut [f64],
+    psi_h: &mut [f64],
+    tables: &mut [f64],
+    poles: &mut [f64],
+    aux: &mut [f64],
+    ids: &mut [u32],
+) -> bool {
+    let fields = input::read_three(e, h, media);
+    let layer = input::read_three(psi_e, psi_h, tables);
+    let rest = input::read_floats(poles) & input::read_floats(aux);
+    let cells = input::read_ids(ids);
+    fields & layer & rest & cells & input::read_floats(samples)
+}
+
+// The steps of a record, and then the answers beside what they leave.
+fn replayed(
+    whole: bool,
+    r: Record,
+    samples: &[f64],
+    e: &mut [f64],
+    h: &mut [f64],
+    media: &[f64],
+    psi_e: &mut [f64],
+    psi_h: &mut [f64],
+    tables: &[f64],
+    poles: &mut [f64],
+    aux: &mut [f64],
+    ids: &[u32],
+) -> Outcome {
+    let o = run::run(
+        root::EPS0,
+        root::MU0,
+        root::C0,
+        r,
+        samples,
+        e,
+        h,
+        media,
+        psi_e,
+        psi_h,
+        tables,
+        poles,
+        aux,
+        ids,
+    );
+    let q = o.study;
+    let fields = see_two(e, h);
+    let layer = see_two(psi_e, psi_h);
+    let rest = see_two(poles, aux);
+    let seen = joined(joined(fields, layer), joined(rest, see_block(q)));
+    told(whole, o.refusal, q, samples.len(), seen)
+}
+
+// A study in stores of its lengths.
+fn play(
+    r: Record,
+    samples: &mut [f64],
+    e: &mut [f64],
+    h: &mut [f64],
+    media: &mut [f64],
+    psi_e: &mut [f64],
+    psi_h: &mut [f64],
+    tables: &mut [f64],
+    poles: &mut [f64],
+    aux: &mut [f64],
+    ids: &mut [u32],
+) -> Outcome {
+    let whole = read_stores(samples, e, h, media, psi_e, psi_h, tables, poles, aux, ids);
+    replayed(
+        whole,
+        r,
+        samples,
+        e,
+        h,
+        media,
+        psi_e,
+        psi_h,
+        tables,
+        poles,
+        aux,
+        ids,
+    )
+}
+
+// Whether each part fits its array: those of 32 cells, sides of up to 8, 4 pole slots, and 3 samples.
+fn fits(c: Counts) -> bool {
+    (c.e <= 96)
+        & (c.h <= 96)
+        & (c.media <= 96)
+        & (c.psi_e <= 192)
+        & (c.psi_h <= 192)
+        & (c.tables <= 144)
+        & (c.poles <= 864)
+        & (c.aux <= 112)
+        & (c.ids <= 32)
+        & (c.samples <= 3)
+}
+
+// A count that is no larger than its array; one that fits is kept.
+fn cut(n: usize, most: usize) -> usize
+    ensures { λ r. ⌜ (r ≡ min n most) × (r ≤ most) ⌝ }
+{
+    if most < n {
+        return most;
+    }
+    n
+}
+
+// A study in arrays of its own.
+fn lend(c: Counts, r: Record) -> Outcome {
+    let mut e = [0.0; 96];
+    let mut h = [0.0; 96];
+    let mut media = [0.0; 96];
+    let mut psi_e = [0.0; 192];
+    let mut psi_h = [0.0; 192];
+    let mut tables = [0.0; 144];
+    let mut poles = [0.0; 864];
+    let mut aux = [0.0; 112];
+    let mut ids = [0u32; 32];
+    let mut samples = [0.0; 3];
+    let ne = cut(c.e, 96);
+    let nh = cut(c.h, 96);
+    let nm = cut(c.media, 96);
+    let npe = cut(c.psi_e, 192);
+    let nph = cut(c.psi_h, 192);
+    let nt = cut(c.tables, 144);
+    let np = cut(c.poles, 864);
+    let na = cut(c.aux, 112);
+    let ni = cut(c.ids, 32);
+    let ns = cut(c.samples, 3);
+    play(
+        r,
+        &mut samples[0..ns],
+        &mut e[0..ne],
+        &mut h[0..nh],
+        &mut media[0..nm],
+        &mut psi_e[0..npe],
+        &mut psi_h[0..nph],
+        &mut tables[0..nt],
+        &mut poles[0..np],
+        &mut aux[0..na],
+        &mut ids[0..ni],
+    )
+}
+
+// The next study of the list.
+pub fn next() -> Outcome {
+    let mut head = [0u8; 40];
+    if !input::read_bytes(&mut head) {
+        return no_study();
+    }
+    let c = input::counts_of(&head);
+    if !fits(c) {
+        return no_study();
+    }
+    let mut b = [0u8; 2073];
+    if !input::read_bytes(&mut b) {
+        return no_study();
+    }
+    if !block::is_record(&b) {
+        return no_study();
+    }
+    lend(c, block::get_record(&b))
+}

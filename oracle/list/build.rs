@@ -1,0 +1,10 @@
+//! Passes on whether the original was found.
+
+use std::env;
+
+fn main() {
+    println!("cargo::rustc-check-cfg=cfg(original)");
+    if env::var("DEP_PHYZ_EM_FOUND").is_ok() {
+        println!("cargo::rustc-cfg=original");
+    }
+}

@@ -1,10 +1,17 @@
-# make test: everything that a change has to pass. Its last step proves every crate and prints 'N passed, M failed'.
-.PHONY: test format compare prove compare-long bench
+# make test: everything that a change has to pass. Its last line is the proof's tally, 'N passed, M failed'.
+SHELL := /bin/bash -o pipefail
+.PHONY: test format prove compare compare-long bench
 
-test: format compare prove
+# The proof comes first, since it starts from nothing and leaves the proved crates to the comparison.
+test: format
+	@said=$$(mktemp) && rt ci 2>&1 | tee $$said && $(MAKE) --no-print-directory compare && tail -n 1 $$said
 
 format:
 	rt fmt --check
+
+# Every crate proved from nothing, every must-fail edit tried, every program run.
+prove:
+	rt ci
 
 # The proved library, linked into Rust and C, against the header, the processor's square root and the original Rust.
 compare:
@@ -20,6 +27,3 @@ compare-long:
 bench:
 	rt staticlib api
 	cd oracle && cargo run --release -p bench
-
-prove:
-	rt ci

@@ -14,14 +14,14 @@ use Rattle.dispersion.specs.declared.DispersiveMaterial.{DispersiveMaterial}
 use Rattle.grid.specs.declared.Record.{Record}
 use Rattle.grid.specs.Fault.{badStudy, allBelow}
 use Rattle.grid.specs.Stores.{Stores, Outcome, outcome}
-use Rattle.grid.proofs.Tests.{and-left, and-right}
+use Rattle.grid.proofs.Tests.{and-left}
 use Rattle.opening.specs.Opening.{openRecord, openCall}
 use Rattle.opening.specs.Layer.{Layer}
 use Rattle.materials.specs.Materials.{addCall}
 use Rattle.cpml.specs.Absorber.{Absorbed, absorbed}
 use Rattle.heads.specs.Numbers.{ghFine, mlWidths, mlFine}
 use Rattle.block.specs.Block.{blockLength, blockFine, blockRecord, blockOf, headOf, entryFine}
-use Rattle.api.specs.Blocks.{Sent, sent, blockAfter, passed, onBlock, Told, told, readBlock, answered, answering, materialFine, materialOf, openOnBlock, addOnBlock, axisBits, Named, named, naming}
+use Rattle.api.specs.Blocks.{sent, blockAfter, passed, onBlock, told, readBlock, answered, answering, materialFine, materialOf, openOnBlock, addOnBlock, axisBits, Named, named, naming}
 
 -- ---- the block
 pub block-long : (b : List ℕ) → blockFine b ≡ true → length b ≡ blockLength

@@ -1,7 +1,7 @@
 // Materials: added to the study, placed in its cells, and built.
 ghost use mathlib.Core.Path.{_≡_};
-ghost use Rattle.materials.specs.Materials.{setMaterialCall, assignBoxCall, placed, halfspace, buildCall, addCall};
-ghost use Rattle.api.specs.Blocks.{sent, onBlock, answered, answering, materialOf, addOnBlock};
+ghost use Rattle.materials.specs.Materials.{setMaterialCall, assignBoxCall, placed, halfspace, buildCall};
+ghost use Rattle.api.specs.Blocks.{sent, onBlock, addOnBlock};
 use crate::blocks;
 use cells::IndexBox;
 use grid::fault::BAD_STUDY;

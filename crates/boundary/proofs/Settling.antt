@@ -1,7 +1,7 @@
 -- What the calls that set walls may lean on where none of the first faults stands, and their stores as one value. Assumes nothing.
 use Prim.Native.Nat.{ℕ, _+_, _*_}
-use mathlib.Core.Path.{_≡_, ap}
-use mathlib.Core.Bool.{true, _&&_}
+use mathlib.Core.Path.{_≡_}
+use mathlib.Core.Bool.{true}
 use mathlib.Core.List.{List}
 use lib.Dec.{eqb}
 use lib.ListN.{length}
@@ -9,7 +9,7 @@ use lib.Ieee.{Float}
 use borrow.Author.Tests.{eqb-true}
 use Rattle.grid.specs.declared.Record.{Record}
 use Rattle.grid.specs.Sound.{Sound}
-use Rattle.grid.specs.Stores.{storeLengths, faultLent}
+use Rattle.grid.specs.Stores.{storeLengths}
 use Rattle.grid.proofs.Tests.{and-left, and-right, or-none}
 use Rattle.grid.proofs.Settled.{lent-none}
 use Rattle.opening.specs.Layer.{Layer, layer, layerLong, layerFits, clearedLayer}

@@ -2,7 +2,7 @@
 ghost use mathlib.Core.Path.{_≡_};
 ghost use mathlib.Core.Bool.{true, cond};
 ghost use Prim.Native.Nat.{_+_, _*_, _≤_};
-ghost use lib.ListN.{length, getD};
+ghost use lib.ListN.{length};
 ghost use Rattle.codec.specs.Lists.{put, part};
 ghost use Rattle.grid.specs.Edited.{withWalls};
 ghost use Rattle.opening.specs.Opening.{openTables};

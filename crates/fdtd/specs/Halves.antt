@@ -1,6 +1,6 @@
 -- The two half steps, each store as a list of its cells' numbers (fdtd.rs, `update_h_field` and `update_e_field`). A new number hangs on the other field, on
 -- its own old number and on its own memories alone, so that no order of cells is in it. Definitions only.
-use Prim.Native.Nat.{ℕ, _+_, _*_, _/_, _%_}
+use Prim.Native.Nat.{ℕ, _+_, _/_, _%_}
 use mathlib.Core.Bool.{Bool, cond}
 use mathlib.Core.List.{List}
 use lib.Dec.{eqb}

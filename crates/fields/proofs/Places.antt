@@ -4,16 +4,16 @@ use native.Mathlib.Nat.{zero-mul, one-mul, mul-comm}
 use native.Mathlib.Numerals.{add-one}
 use native.Mathlib.Omega.{arith}
 use mathlib.Core.Path.{_≡_, refl, ap}
-use mathlib.Core.Bool.{Bool, _&&_}
+use mathlib.Core.Bool.{_&&_}
 use mathlib.Core.List.{List}
 use lib.Dec.{eqb, ltb}
-use lib.ListN.{length, getD}
+use lib.ListN.{getD}
 use lib.Ieee.{Float, nan}
 use borrow.Author.Tests.{eqb-true, ltb-true}
 use Rattle.root.specs.Rounded.{_⊕_, summed}
 use Rattle.grid.specs.declared.Record.{Record}
 use Rattle.grid.specs.Sound.{Sound}
-use Rattle.grid.specs.Stores.{cells, storeLengths, faultLent, numberAt}
+use Rattle.grid.specs.Stores.{cells, storeLengths, numberAt}
 use Rattle.grid.proofs.Tests.{and-left, and-right, first-none, or-none}
 use Rattle.grid.proofs.Settled.{lent-none}
 use Rattle.cells.proofs.Blocks.{block-end}

@@ -6,7 +6,6 @@ use lib.Dec.{ltb, eqb}
 use lib.ListN.{length}
 use lib.Ieee.{Float}
 use Rattle.root.specs.Rounded.{_⊕_, _⊗_, zeroF, halfF, summed}
-use Rattle.root.specs.declared.Spacings.{Spacings}
 use Rattle.grid.specs.declared.Record.{Record}
 use Rattle.grid.specs.declared.stores.Lengths.{Lengths}
 use Rattle.grid.specs.Fault.{first}

@@ -6,7 +6,7 @@ ghost use lib.Ieee.{binary64, mul};
 ghost use Rattle.root.specs.Constants.{eps0, mu0};
 ghost use Rattle.grid.specs.Stores.{outcome, numberAt};
 ghost use Rattle.root.specs.Rounded.{summed};
-ghost use Rattle.fields.specs.Fields.{squared, cellEnergy, energyAt, energyFault, energyCall, planeAt, planeFault, planeCall};
+ghost use Rattle.fields.specs.Fields.{squared, cellEnergy, energyAt, energyFault, energyCall, planeFault, planeCall};
 use crate::Reading;
 use grid::Record;
 use grid::fault;

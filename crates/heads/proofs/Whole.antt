@@ -3,14 +3,14 @@ use Prim.Native.Nat.{ℕ, zero, suc, _+_, _≤_, _<_}
 use native.Mathlib.Nat.{not-suc-le-zero, le-of-suc-le-suc}
 use native.Mathlib.Omega.{arith}
 use mathlib.Core.Path.{_≡_, refl, sym, ap, _∙_, subst}
-use mathlib.Core.List.{List, [], _∷_, _++_}
+use mathlib.Core.List.{List, [], _∷_}
 use lib.ListN.{length, drop, getD, length-append}
 use Rattle.codec.specs.Lists.{put}
 use Rattle.codec.specs.Bytes.{enc, nums, total}
 use Rattle.codec.proofs.Lists.{put-whole}
 use Rattle.dispersion.specs.declared.DispersiveMaterial.{DispersiveMaterial}
 use Rattle.grid.specs.declared.Record.{Record}
-use Rattle.heads.specs.Numbers.{slotNums, ghWidths, ghNums, mlWidths, mlNums}
+use Rattle.heads.specs.Numbers.{ghWidths, ghNums, mlWidths, mlNums}
 use Rattle.heads.specs.Widths.{Narrow}
 use Rattle.heads.proofs.Flat.{slot-long}
 use Rattle.heads.proofs.Puts.{length-nums}

@@ -1,7 +1,7 @@
 -- The study record as numbers of fixed widths: the payload of GH, 73 bytes, and of one material in ML, 125 bytes (document 01, "The save"). What means nothing
 -- is zero. Definitions only.
 use Prim.Native.Nat.{ℕ}
-use mathlib.Core.Bool.{Bool, true, false, cond, _&&_, _||_}
+use mathlib.Core.Bool.{Bool, false, cond, _&&_, _||_}
 use mathlib.Core.List.{List, [], _∷_, _++_}
 use lib.Dec.{leb, ltb, eqb}
 use lib.ListN.{getD}

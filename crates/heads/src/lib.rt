@@ -3,8 +3,8 @@ pub mod payloads;
 pub mod rows;
 
 ghost use mathlib.Core.Path.{_≡_};
-ghost use Prim.Native.Nat.{_+_, _≤_};
-ghost use lib.ListN.{length, getD};
+ghost use Prim.Native.Nat.{_≤_};
+ghost use lib.ListN.{getD};
 ghost use Rattle.grid.specs.Canon.{canonRegion};
 ghost use Rattle.heads.specs.Numbers.{kindNum, kindOf, poleNums, slotNums, slotOf, slotFine, mlNums, mlFine, mlOf, flagNum, flagNums, floatNums, ghNums, flagsFine, cornersFine, ghFine, ghOf};
 use codec::floats;

@@ -2,9 +2,9 @@
 use Prim.Native.Nat.{ℕ, _+_, _-_, _≤_, _<_}
 use native.Mathlib.Numerals.{add-one}
 use native.Mathlib.Omega.{arith}
-use mathlib.Core.Path.{_≡_, refl, sym, ap, _∙_}
+use mathlib.Core.Path.{_≡_, sym, ap, _∙_}
 use mathlib.Core.Bool.{true}
-use mathlib.Core.List.{List, [], _∷_}
+use mathlib.Core.List.{List}
 use lib.ListN.{length, getD, drop}
 use lib.Seq.{drop-cons, drop-length}
 use lib.Ieee.{Float, nan}
@@ -15,7 +15,7 @@ use Rattle.grid.specs.Fault.{polesFit}
 use Rattle.grid.specs.Sound.{Sound}
 use Rattle.grid.specs.Stores.{Stores, stores, Outcome, outcome}
 use Rattle.step.specs.Step.{lastStep, stepped, ticked}
-use Rattle.step.specs.Ready.{Wavy, Polar, Ready}
+use Rattle.step.specs.Ready.{Ready}
 use Rattle.run.specs.Run.{ran}
 
 module _ (eps0 mu0 c0 : Float) (samples : List Float) where

@@ -1,5 +1,5 @@
 -- A run that is accepted is its steps: the call of one step is accepted for each sample, and the run is what they come to one after another. Assumes nothing.
-use Prim.Native.Nat.{ℕ, suc, _+_, _≤_}
+use Prim.Native.Nat.{ℕ, suc, _+_}
 use native.Mathlib.Omega.{arith}
 use mathlib.Core.Path.{_≡_, refl}
 use mathlib.Core.Bool.{true}

@@ -2,7 +2,6 @@
 pub mod waves;
 
 ghost use mathlib.Core.Path.{_≡_};
-ghost use Prim.Native.Nat.{_*_};
 ghost use lib.ListN.{length};
 use boundary::LossyAbsorber;
 use boundary::walls;

@@ -1,9 +1,9 @@
 -- The ids tested one after another, and what a study without fault gives. Assumes nothing.
-use Prim.Native.Nat.{ℕ, zero, suc, _+_, _-_, _*_, _≤_, _<_}
+use Prim.Native.Nat.{ℕ, zero, suc, _+_, _-_, _≤_, _<_}
 use native.Mathlib.Numerals.{add-one}
 use native.Mathlib.Omega.{arith}
 use mathlib.Core.Path.{_≡_, refl, sym, ap, _∙_}
-use mathlib.Core.Bool.{Bool, true, false, cond, _&&_, _||_}
+use mathlib.Core.Bool.{Bool, true, false, _&&_, _||_}
 use mathlib.Core.List.{List, [], _∷_}
 use lib.Dec.{eqb, ltb, leb}
 use lib.ListN.{length, getD, take}
@@ -14,7 +14,6 @@ use Rattle.grid.specs.declared.Record.{Record}
 use Rattle.grid.specs.declared.stores.Lengths.{Lengths}
 use Rattle.grid.specs.Fault.{faultOf, sizeFits, spacingsFit, studyFits, countsFit, polesFit, layerFits, regionFits, cornersFit, isAbsent, poleCount}
 use Rattle.grid.specs.Limits.{maxPoleSlots, maxMaterials}
-use Rattle.grid.specs.Sound.{Sound}
 use Rattle.grid.specs.Stores.{Stores, lengthsOf, storeLengths, cells, faultWith, faultLent}
 use Rattle.grid.proofs.Tests.{and-left, and-right, first-none, or-none}
 use Rattle.grid.proofs.Settled.{with-none}
@@ -22,7 +21,7 @@ use Rattle.ade.proofs.Advancing.{fit-of}
 use Rattle.tfsf.specs.Faces.{Corners}
 use Rattle.tfsf.proofs.Faced.{corners-of}
 use Rattle.step.specs.Step.{lastStep, freshIds, stepFault}
-use Rattle.step.specs.Ready.{Wavy, Polar, Ready}
+use Rattle.step.specs.Ready.{Ready}
 
 -- ---- a test of every element, one more each time
 and-true : (a : Bool) → (a && true) ≡ a

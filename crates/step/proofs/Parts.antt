@@ -1,6 +1,6 @@
 -- The parts that a study may lack, there or not, and what they come to together. Assumes nothing.
 use Prim.Native.Nat.{ℕ}
-use mathlib.Core.Path.{_≡_, refl, ap, _∙_}
+use mathlib.Core.Path.{_≡_, ap, _∙_}
 use mathlib.Core.Bool.{Bool, true, false, cond}
 use mathlib.Core.List.{List}
 use lib.Dec.{eqb}
@@ -13,7 +13,7 @@ use Rattle.ade.specs.Polarization.{polesAfter, deltaP}
 use Rattle.fdtd.specs.Halves.{halfH, psiAfter, magneticAfter, halfE, electricAfter}
 use Rattle.tfsf.specs.Line.{lineLength, lineH, lineE}
 use Rattle.tfsf.specs.Corrections.{correctH, correctE}
-use Rattle.step.specs.Step.{waved, lineMid, correctedH, correctedE, lineEnd, polarized, stepped}
+use Rattle.step.specs.Step.{lineMid, correctedH, correctedE, lineEnd, polarized, stepped}
 
 -- where there is a region, and where there is none
 there : {A : Type 0} (absent : Bool) (x y z : A) → absent ≡ false → z ≡ x → z ≡ cond absent y x

@@ -4,7 +4,6 @@ ghost use Prim.Native.Nat.{_+_, _*_, _<_};
 ghost use lib.Dec.{leb, ltb};
 ghost use lib.ListN.{length};
 ghost use Rattle.codec.specs.Lists.{every};
-ghost use Rattle.grid.specs.Sound.{Sound};
 ghost use Rattle.grid.specs.Stores.{cells, stores, outcome};
 ghost use Rattle.ade.specs.Polarization.{deltaP};
 ghost use Rattle.fdtd.specs.Halves.{halfH, psiAfter, magneticAfter, halfE, electricAfter};

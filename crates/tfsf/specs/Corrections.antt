@@ -1,7 +1,7 @@
 -- The corrections where a difference crosses the region's surface: the incident field is added to or taken from it (Taflove and Hagness, the chapter on
 -- plane-wave sources; tfsf.rs, `correct_h` and `correct_e`). Each is one number added in each cell of a box, one box after another in the Rust's order.
 -- Definitions only.
-use Prim.Native.Nat.{ℕ, _+_, _-_, _*_}
+use Prim.Native.Nat.{ℕ, _+_, _-_}
 use mathlib.Core.Bool.{Bool, true, false, cond, _&&_}
 use mathlib.Core.List.{List}
 use lib.Dec.{leb, eqb}

@@ -7,7 +7,6 @@ use Rattle.fdtd.specs.Axes.{hasNext}
 use Rattle.magnetic.proofs.Slopes.{across-slope}
 use Rattle.fdtd.proofs.Stands.{stands-across, calm-across, room-across, lower, mem-apart, thrice, row-fits, row-le}
 use Rattle.magnetic.proofs.Component.{idle, moved, and-true, and-left, and-right}
-use borrow.Author.Needs.{needs}
 use Rattle.magnetic.proofs.comp_r.Statement.{statement}
 use Rattle.magnetic.proofs.comp_r.Tie as tie
 

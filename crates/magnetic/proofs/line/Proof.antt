@@ -2,7 +2,6 @@ use native.Mathlib.Omega.{arith}
 use mathlib.Core.Path.{_∙_}
 use Rattle.fdtd.proofs.Lines.{fit-as}
 use Rattle.magnetic.proofs.Rowwise.{line-spot, spot-next}
-use borrow.Author.Needs.{needs}
 use Rattle.magnetic.proofs.line.Statement.{statement}
 use Rattle.magnetic.proofs.line.Tie as tie
 

@@ -2,7 +2,6 @@ use mathlib.Core.Path.{sym, ap, _∙_}
 use Rattle.opening.specs.Opening.{openStores, openCall}
 use Rattle.grid.proofs.Settled.{turned-down, taken-up, with-none, fault-at}
 -- Judged on the record that it would open; refused, nothing was written; else the nine stores are the opened ones.
-use borrow.Author.Needs.{needs}
 use Rattle.opening.proofs.new_rect.Statement.{statement}
 use Rattle.opening.proofs.new_rect.Tie as tie
 

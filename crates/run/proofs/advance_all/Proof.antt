@@ -1,9 +1,8 @@
-use mathlib.Core.Path.{_≡_, refl, ap, _∙_}
-use Prim.Native.Nat.{ℕ, _≤_, _+_, _-_}
+use mathlib.Core.Path.{_≡_, refl, _∙_}
+use Prim.Native.Nat.{_≤_, _+_, _-_}
 use native.Mathlib.Omega.{arith}
 use lib.ListN.{length, drop}
 use borrow.Author.Needs.{needs}
-use Rattle.grid.specs.declared.Record.{Record}
 use Rattle.grid.specs.Stores.{stores}
 use Rattle.step.specs.Step.{lastStep}
 use Rattle.step.specs.Ready.{Ready}

@@ -1,6 +1,5 @@
 use mathlib.Core.Path.{ap}
 use Prim.Native.Nat.{ℕ, _-_, _≤_}
-use native.Mathlib.Omega.{arith}
 use borrow.Author.Needs.{needs}
 use Rattle.step.specs.Step.{lastStep}
 use Rattle.step.proofs.Judged.{left-is}

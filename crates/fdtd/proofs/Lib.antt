@@ -9,5 +9,6 @@ pub mod Parts
 pub mod Stands
 pub mod Components
 pub mod Lines
+pub mod Singles
 pub mod Fits
 pub mod Grids

@@ -72,7 +72,7 @@ module _ (g : Turn) (laid : Laid g) (x₀ m₀ x m x' m' : List Float) (s t : �
           second = part-keep _ _ _ _ _ _ (g .t .n) (laid .whole) m m' r (w .second) few (λ q a b. same-m p q (omega arith) b);
         }
 
-apart-back : (count : ℕ) (A B : Axis) → Apart count A B → Apart count B A
+pub apart-back : (count : ℕ) (A B : Axis) → Apart count A B → Apart count B A
 apart-back count A B p = ⊎-elim (λ x. inr x) (λ x. inl x) p
 
 -- a row of all three

@@ -5,3 +5,4 @@ pub mod Halves
 pub mod Span
 pub mod Rows
 pub mod Turns
+pub mod Begun

@@ -1,5 +1,6 @@
 // What both half steps share.
 pub mod rows;
+pub mod single;
 pub mod turns;
 
 // One axis: its cells, their size, whether it wraps, whether its layer is on, and where its component begins in a field, its two memories among the six,

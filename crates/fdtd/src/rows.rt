@@ -34,7 +34,7 @@ pub fn slope_of(d: f64, lo: f64, hi: f64) -> f64
 }
 
 // What a memory holds after.
-fn mem_next(k: Coef, memory: f64, deriv: f64) -> f64
+pub fn mem_next(k: Coef, memory: f64, deriv: f64) -> f64
     ensures { λ r. ⌜ r ≡ memNext k memory deriv ⌝ }
 {
     if k.c == 0.0 {
@@ -45,7 +45,7 @@ fn mem_next(k: Coef, memory: f64, deriv: f64) -> f64
 }
 
 // What it tells.
-fn told_of(k: Coef, memory: f64, deriv: f64) -> f64
+pub fn told_of(k: Coef, memory: f64, deriv: f64) -> f64
     ensures { λ r. ⌜ r ≡ told k memory deriv ⌝ }
 {
     if k.c == 0.0 {
@@ -55,13 +55,13 @@ fn told_of(k: Coef, memory: f64, deriv: f64) -> f64
     }
 }
 
-fn join(second: bool, curl: f64, t: f64, s: f64) -> f64
+pub fn join(second: bool, curl: f64, t: f64, s: f64) -> f64
     ensures { λ r. ⌜ r ≡ joins second curl t s ⌝ }
 {
     if second { curl - t + s } else { curl + t - s }
 }
 
-fn stretch(kinv: f64, d: f64) -> f64
+pub fn stretch(kinv: f64, d: f64) -> f64
     ensures { λ r. ⌜ r ≡ (oneF ⊖ kinv) ⊗ d ⌝ }
 {
     (1.0 - kinv) * d

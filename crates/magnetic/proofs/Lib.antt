@@ -3,4 +3,5 @@ pub mod Slopes
 pub mod Whole
 pub mod Component
 pub mod Rowwise
+pub mod Shorts
 pub mod Steps

@@ -20,7 +20,7 @@ use Rattle.magnetic.specs.Swept.{Carried, madeOf, onR, onS, onT, upR, up
 use Rattle.magnetic.proofs.Component.{Moved}
 
 -- a cell's new number hangs on the stores by its own numbers alone
-h-own : (A B C : Axis) (count : ℕ) (e tab m m₀ : List Float) (q i onB onC upB upC : ℕ) → getD m (A .mem + (q + i)) nan ≡ getD m₀ (A .mem + (q + i)) nan
+pub h-own : (A B C : Axis) (count : ℕ) (e tab m m₀ : List Float) (q i onB onC upB upC : ℕ) → getD m (A .mem + (q + i)) nan ≡ getD m₀ (A .mem + (q + i)) nan
     → getD m (A .mem + count + (q + i)) nan ≡ getD m₀ (A .mem + count + (q + i)) nan → (h h₀ : List Float) (f f₀ : Float) → f ≡ f₀
     → getD h (A .at + (q + i)) nan ≡ getD h₀ (A .at + (q + i)) nan
     → fieldH A B C count e tab m (q + i) onB onC upB upC f h ≡ fieldH A B C count e tab m₀ (q + i) onB onC upB upC f₀ h₀

@@ -1,5 +1,6 @@
 // The magnetic half step: rows along one axis, r, over the other two, s and t, and in each row the three components.
 pub mod row;
+pub mod short;
 
 ghost use mathlib.Core.Path.{_≡_};
 ghost use mathlib.Core.Bool.{cond};
@@ -193,6 +194,9 @@ fn reach(n: usize, wraps: bool) -> usize
     if wraps { n } else { n - 1 }
 }
 
+// Rows of fewer cells than this go cell by cell.
+const SHORT: usize = 16;
+
 // The whole half step in rows along r.
 fn step_along(
     h: &mut [f64],
@@ -208,10 +212,14 @@ fn step_along(
     requires { ⌜ g .count + g .count ≤ length (now media) ⌝ }
     ensures { λ _. ⌜ Swept mu0 g (now (e .entry)) (now (media .entry)) (now (tab .entry)) (now (h .entry)) (now (mem .entry)) (g .t .n * g .s .n) (now (h .exit)) (now (mem .exit)) ⌝ }
 {
-    let mut scr = [0.0; 2048];
-    let end = reach(g.r.n, g.r.wraps);
-    let run = turns::find_lull(tab, g.r, 0, end);
-    sweep(h, mem, &mut scr, e, media, tab, mu0, g, run);
+    if g.r.n < SHORT {
+        short::sweep_cells(h, mem, e, media, tab, mu0, g);
+    } else {
+        let mut scr = [0.0; 2048];
+        let end = reach(g.r.n, g.r.wraps);
+        let run = turns::find_lull(tab, g.r, 0, end);
+        sweep(h, mem, &mut scr, e, media, tab, mu0, g, run);
+    }
 }
 
 // H(n+1/2) = H(n-1/2) - dt/μ curl E in every cell, and the layer's magnetic memories moved on with it.

@@ -12,7 +12,7 @@ ghost use Rattle.magnetic.specs.Row.{slopeOf, fieldOf};
 use fdtd::rows;
 use fdtd::rows::Side;
 
-fn factor_of(dt: f64, mu0: f64, mu: f64) -> f64
+pub fn factor_of(dt: f64, mu0: f64, mu: f64) -> f64
     ensures { λ r. ⌜ r ≡ factor dt mu0 mu ⌝ }
 {
     dt / (mu0 * mu)

@@ -1,0 +1,31 @@
+use borrow.Author.Needs.{needs}
+use Rattle.fdtd.proofs.Singles.{lone-set, lone-kept, layer-on, layer-off, memory-on, memory-off}
+use Rattle.fdtd.proofs.single.join_layer.Statement.{statement}
+use Rattle.fdtd.proofs.single.join_layer.Tie as tie
+
+returns : tie.Need-returns
+returns c =
+    let a = c .before .before .before .before .before .before .before .args in
+    let on = c .before .before .before .before .before .if1 .taken in
+    (layer-on (a .on) (a .k) _ _ (a .second) _ on (c .join .ensures) (c .before .before .told-of .ensures) (c .before .stretch .ensures), lone-set _ _ (c .before .before .before .before .before .before .before .pre) (memory-on (a .on) (a .k) _ _ on (c .before .before .before .mem-next .ensures)))
+
+returns-2 : tie.Need-returns-2
+returns-2 c =
+    let a = c .before .before .args in
+    (layer-off (a .on) (a .k) _ _ (a .second) _ (c .if1 .left), lone-kept _ _ (memory-off (a .on) (a .k) _ _ (c .if1 .left)))
+
+pub join-layer-spec : {M : Type 1} → statement M
+join-layer-spec =
+    tie.close
+    (tie.spec
+    (λ c. search needs)
+    (λ c. search needs)
+    (λ c κs. search needs)
+    (λ c. search needs)
+    (λ c. search needs)
+    (λ c κs. search needs)
+    (λ c κs. search needs)
+    (λ c κs. search needs)
+    (λ c. search needs)
+    returns
+    returns-2)

@@ -1,0 +1,76 @@
+-- A half step that goes cell by cell: what one cell takes and stores, and the stores while the cells of a row are moved on. Definitions only.
+use Prim.Native.Nat.{ℕ, _+_, _*_, _≤_, _<_}
+use mathlib.Core.Path.{_≡_}
+use mathlib.Core.Bool.{Bool, true, false, cond, _&&_}
+use mathlib.Core.List.{List}
+use lib.ListN.{length, getD}
+use lib.Ieee.{Float, nan}
+use Rattle.root.specs.Rounded.{_⊖_}
+use Rattle.fdtd.specs.declared.Axis.{Axis}
+use Rattle.fdtd.specs.declared.Coef.{Coef}
+use Rattle.fdtd.specs.declared.turns.Turn.{Turn}
+use Rattle.fdtd.specs.Yee.{memNext, layered, derivative}
+use Rattle.fdtd.specs.Turns.{Made}
+
+-- the curl once a side's layer has joined it, if it is on, and the side's memory after
+abbrev pub withLayer : (second on : Bool) → Coef → (memory deriv curl : Float) → Float
+withLayer second on k m d u = cond on (layered second k m d u) u
+
+abbrev pub remembered : (on : Bool) → Coef → (memory deriv : Float) → Float
+remembered on k m d = cond on (memNext k m d) m
+
+-- the curl of a cell whose derivatives are x and y, after both sides' layers
+abbrev pub curlOf : (bon con : Bool) → (kb kc : Coef) → (mb mc x y : Float) → Float
+curlOf bon con kb kc mb mc x y = withLayer true con kc mc y (withLayer false bon kb mb x (x ⊖ y))
+
+-- as curl, memoryB and memoryC of Yee.antt, with the layers' numbers in hand
+module _ (A B C : Axis) (count : ℕ) (field mem : List Float) (cell loB hiB loC hiC : ℕ) (kb kc : Coef) where
+  unfoldable pub curlBy : Float
+  curlBy =
+      curlOf (B .on) (C .on) kb kc (getD mem (A .mem + cell) nan) (getD mem (A .mem + count + cell) nan) (derivative B C field loB hiB)
+      (derivative C B field loC hiC)
+
+  unfoldable pub firstBy : (moves : Bool) → Float
+  firstBy moves = cond (moves && B .on) (memNext kb (getD mem (A .mem + cell) nan) (derivative B C field loB hiB)) (getD mem (A .mem + cell) nan)
+
+  unfoldable pub secondBy : (moves : Bool) → Float
+  secondBy moves = cond (moves && C .on) (memNext kc (getD mem (A .mem + count + cell) nan) (derivative C B field loC hiC)) (getD mem (A .mem + count + cell) nan)
+
+-- new holds v at p, and is as old everywhere else
+pub record Lone (v : Float) (old : List Float) (p : ℕ) (new : List Float) : Type 0 where
+  pub len : length new ≡ length old
+  pub here : getD new p nan ≡ v
+  pub under : (q : ℕ) → q < p → getD new q nan ≡ getD old q nan
+  pub over : (q : ℕ) → p < q → getD new q nan ≡ getD old q nan
+
+-- v at p and w above it at r
+pub record Both (v w : Float) (old : List Float) (p r : ℕ) (new : List Float) : Type 0 where
+  pub len : length new ≡ length old
+  pub first : getD new p nan ≡ v
+  pub second : getD new r nan ≡ w
+  pub under : (q : ℕ) → q < p → getD new q nan ≡ getD old q nan
+  pub mid : (q : ℕ) → p < q → q < r → getD new q nan ≡ getD old q nan
+  pub over : (q : ℕ) → r < q → getD new q nan ≡ getD old q nan
+
+-- a cell's number along A and its two memories
+abbrev pub Stored : (A : Axis) → (count cell : ℕ) → (u v w : Float) → (x m x' m' : List Float) → Type 0
+Stored A count cell u v w x m x' m' = Lone u x (A .at + cell) x' × Both v w m (A .mem + cell) (A .mem + count + cell) m'
+
+-- as Part of Turns.antt, with the row (j, k) under way: the rows before it and its first i cells hold f
+pub record Begun (n s count : ℕ) (f : ℕ → ℕ → ℕ → Float) (lo : ℕ) (old : List Float) (j k i : ℕ) (new : List Float) : Type 0 where
+  pub rows : (j' k' c : ℕ) → c < n → j' < s → j' + k' * s < j + k * s → getD new (lo + (j' + k' * s) * n + c) nan ≡ f j' k' c
+  pub row : (c : ℕ) → c < i → getD new (lo + (j + k * s) * n + c) nan ≡ f j k c
+  pub rest : (q : ℕ) → lo + (j + k * s) * n + i ≤ q → q < lo + count → getD new q nan ≡ getD old q nan
+
+-- and so as Comp and Done
+pub record Going (g : Turn) (A : Axis) (w : Made) (x₀ m₀ : List Float) (s t i : ℕ) (x m : List Float) : Type 0 where
+  pub field : Begun (g .r .n) (g .s .n) (g .count) (w .field) (A .at) x₀ s t i x
+  pub first : Begun (g .r .n) (g .s .n) (g .count) (w .first) (A .mem) m₀ s t i m
+  pub second : Begun (g .r .n) (g .s .n) (g .count) (w .second) (A .mem + g .count) m₀ s t i m
+
+pub record Doing (g : Turn) (R S T : Made) (x₀ m₀ : List Float) (s t i : ℕ) (x m : List Float) : Type 0 where
+  pub len-x : length x ≡ length x₀
+  pub len-m : length m ≡ length m₀
+  pub alongR : Going g (g .r) R x₀ m₀ s t i x m
+  pub alongS : Going g (g .s) S x₀ m₀ s t i x m
+  pub alongT : Going g (g .t) T x₀ m₀ s t i x m

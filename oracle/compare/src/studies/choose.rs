@@ -9,6 +9,9 @@ use crate::theirs::built_tables;
 use crate::{Mix, Random, engine};
 
 const LARGEST_SIDE: u64 = 12;
+
+/// The engine moves rows of fewer cells than this one by one, and longer ones in passes: both are to be met.
+pub const LONG_ROW: usize = 16;
 /// The powers that the original's `powi` takes as document 01 does: 7 parts (docs/DIFFERENCES.md).
 const ORDERS: [usize; 8] = [0, 1, 2, 3, 4, 5, 6, 8];
 
@@ -34,8 +37,12 @@ impl Chooser {
             zeros: [0, 0, 0, 300, 950][random.index(5)],
         };
         let least = if random.once_in(3) { 4 } else { 1 };
+        let mut sizes = [0; 3].map(|_| side(random).max(least));
+        if random.once_in(3) {
+            sizes[row_axis(&sizes)] = LONG_ROW + random.index(9);
+        }
         Self {
-            sizes: [0; 3].map(|_| side(random).max(least)),
+            sizes,
             pole_slots: random.index(5),
             spacings: spacings(random, mix),
             calls: 10 + random.below(30),
@@ -281,6 +288,11 @@ fn side(random: &mut Random) -> usize {
         1 => 1 + random.index(3),
         _ => 1 + random.below(LARGEST_SIDE) as usize,
     }
+}
+
+/// The axis that the engine's rows lie along: the first that is longer than one cell, or else z.
+pub fn row_axis(sizes: &[usize; 3]) -> usize {
+    sizes.iter().position(|n| *n > 1).unwrap_or(2)
 }
 
 fn beyond(random: &mut Random, n: usize) -> usize {

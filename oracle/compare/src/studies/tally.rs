@@ -2,6 +2,7 @@
 
 use std::collections::BTreeMap;
 
+use super::choose::{LONG_ROW, row_axis};
 use crate::call::Call;
 use crate::engine::Study;
 use crate::report;
@@ -26,9 +27,15 @@ impl Tally {
         let [_, _, _, _, k0, k1] = record.region.corners;
         let (kind, top) = (record.region.kind, record.sizes[2] - 1);
         let finite = study.e.iter().chain(&study.h).all(|x| x.is_finite());
+        let long = record.sizes[row_axis(&record.sizes)] >= LONG_ROW;
         let kinds = [
             ("all", true),
             ("with finite fields", finite),
+            ("in rows of 16 cells and more", long),
+            (
+                "in such rows with an active layer",
+                long && record.active.contains(&true),
+            ),
             ("periodic", record.periodic.contains(&true)),
             (
                 "with a periodic axis of one cell",
@@ -65,7 +72,7 @@ impl Tally {
 
     /// Every kind of call, every refusal that a study can bring on and every kind of step was there.
     pub fn is_varied(&self) -> bool {
-        self.calls.len() == 22 && self.refusals.len() == 9 && self.steps.len() == 13
+        self.calls.len() == 22 && self.refusals.len() == 9 && self.steps.len() == 15
     }
 }
 

@@ -13,17 +13,19 @@ format:
 prove:
 	rt ci
 
-# The proved library, linked into Rust and C, against the header, the processor's square root and the original Rust.
+# The proved library, linked into Rust and C, against the header, the processor's square root, the original Rust and a second reading of the save; and the
+# program that lists a save.
 compare:
 	rt staticlib api
+	rt check listing
 	cd oracle && cargo test --release
 
-# The random studies alone, many more of them.
+# The random studies, damaged saves and histories alone, many more of them.
 compare-long:
 	rt staticlib api
-	cd oracle && CICHOWIEJ_STUDIES=20000 cargo test --release --test calls
+	cd oracle && CICHOWIEJ_STUDIES=20000 CICHOWIEJ_DAMAGED=1000000 CICHOWIEJ_HISTORIES=20000 cargo test --release --test calls --test damaged --test histories
 
-# Time for a step beside the original's.
+# Time for a step beside the original's, and for the largest save beside a plain copy.
 bench:
 	rt staticlib api
 	cd oracle && cargo run --release -p bench

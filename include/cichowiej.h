@@ -5,7 +5,9 @@
  * arrays, each lent as a pointer and a length (the number of its elements). Nothing is allocated and nothing is kept between calls.
  *
  * Every call answers the number of its refusal, 0 where it was accepted. A refused call changes neither block nor stores; what it
- * answers further is 0. The numbers are those of CICHOWIEJ_* below. A block that is no record is refused as CICHOWIEJ_BAD_STUDY.
+ * answers further is 0. The numbers are those of CICHOWIEJ_* below. A block that is no record is refused as CICHOWIEJ_BAD_STUDY,
+ * but by an opening and a rewind, which do not look at what it holds: there a block of another length is CICHOWIEJ_BAD_STORE, after
+ * every other fault.
  *
  * Stores, with N = nx ny nz cells, cell (i, j, k) at i + j nx + k nx ny, P pole slots and L = nx + ny + nz:
  *
@@ -58,7 +60,7 @@ extern "C" {
 #define CICHOWIEJ_BAD_SIZE 1        /* nx, ny, nz 1 to 512 each, at most 1,048,576 cells */
 #define CICHOWIEJ_BAD_SPACING 2     /* dx, dy, dz, dt finite and above 0 */
 #define CICHOWIEJ_BAD_STUDY 3       /* the record contradicts itself, or the block is none */
-#define CICHOWIEJ_BAD_STORE 4       /* a store of another length: see the table above */
+#define CICHOWIEJ_BAD_STORE 4       /* a store of another length (see the table above), or a material's bytes of another length */
 #define CICHOWIEJ_FULL 5            /* 16 materials stand */
 #define CICHOWIEJ_TOO_MANY_POLES 6  /* open with more pole slots, 4 at most */
 #define CICHOWIEJ_NO_SUCH_MATERIAL 7 /* the id is at or above the material count */
@@ -66,6 +68,11 @@ extern "C" {
 #define CICHOWIEJ_BAD_REGION 9      /* i0 <= i1 < nx, j0 <= j1 < ny, k0 <= k1 < nz */
 #define CICHOWIEJ_BAD_ORDER 10      /* an order of 8 at most */
 #define CICHOWIEJ_SPENT_CLOCK 11    /* 4,294,967,295 steps are done: open anew */
+#define CICHOWIEJ_NO_ROOM 12        /* fewer bytes lent than the save takes: ask cichowiej_save_length */
+#define CICHOWIEJ_SHORT 13          /* the save is cut off: copy it anew, whole */
+#define CICHOWIEJ_BAD_MARK 14       /* another mark where a record has to begin: no save, or a damaged one */
+#define CICHOWIEJ_BAD_RECORD 15     /* a record of another length, or with a field that no save has: a damaged save */
+#define CICHOWIEJ_TRAILING 16       /* bytes behind the save's end: hand over the save alone */
 #define CICHOWIEJ_NO_SUCH_PLANE 17  /* k is at or above nz */
 
 /* ---- constants of vacuum */
@@ -84,7 +91,7 @@ double cichowiej_powi(double u, size_t n);
 double cichowiej_wall_sigma(size_t t, size_t order, double sigma_max, size_t d);
 double cichowiej_stronger(double s, double v);
 
-/* ---- opening: the block may hold anything before, but has to have its length; it is written where the call is accepted */
+/* ---- opening: the block may hold anything before, and is written where the call is accepted */
 uint32_t cichowiej_open(uint8_t *block, size_t block_length, size_t nx, size_t ny, size_t nz, size_t pole_slots, double dx,
                         double dy, double dz, double dt, double *e, size_t e_length, double *h, size_t h_length, double *media,
                         size_t media_length, double *psi_e, size_t psi_e_length, double *psi_h, size_t psi_h_length,
@@ -94,7 +101,8 @@ uint32_t cichowiej_open(uint8_t *block, size_t block_length, size_t nx, size_t n
 /* ---- materials. Boxes hold the cells from i0 up to, not with, i1, and likewise on y and z; ends are cut to the grid. */
 uint32_t cichowiej_set_material(uint8_t *block, size_t block_length, size_t i0, size_t i1, size_t j0, size_t j1, size_t k0,
                                 size_t k1, double eps_r, double mu_r, double sigma, double *media, size_t media_length);
-/* the material's bytes are those of a block's entry, refused as CICHOWIEJ_BAD_STUDY where they are none; its id goes into id */
+/* the material's bytes are those of a block's entry: after the record's own faults, 125 bytes that are no material are
+   CICHOWIEJ_BAD_STUDY, another length of them is CICHOWIEJ_BAD_STORE; its id goes into id */
 uint32_t cichowiej_add_material(uint8_t *block, size_t block_length, const uint8_t *material, size_t material_length, uint32_t *id,
                                 size_t id_length);
 uint32_t cichowiej_assign_material_box(uint8_t *block, size_t block_length, uint32_t id, size_t i0, size_t i1, size_t j0,
@@ -144,6 +152,22 @@ uint32_t cichowiej_total_energy(const uint8_t *block, size_t block_length, const
                                 size_t h_length, const double *media, size_t media_length, double *energy, size_t energy_length);
 uint32_t cichowiej_plane_reading(const uint8_t *block, size_t block_length, size_t k, const double *e, size_t e_length, const double *h,
                                  size_t h_length, double *reading, size_t reading_length);
+
+/* ---- the save: the study as bytes, which are the same wherever they were written */
+/* how many bytes the save takes goes into length */
+uint32_t cichowiej_save_length(const uint8_t *block, size_t block_length, size_t *length, size_t length_length);
+/* the save is written to the front of out; bytes beyond its length are left */
+uint32_t cichowiej_save(const uint8_t *block, size_t block_length, const double *e, size_t e_length, const double *h,
+                        size_t h_length, const double *media, size_t media_length, const double *psi_e, size_t psi_e_length,
+                        const double *psi_h, size_t psi_h_length, const double *tables, size_t tables_length,
+                        const double *poles, size_t poles_length, const double *aux, size_t aux_length, const uint32_t *ids,
+                        size_t ids_length, uint8_t *out, size_t out_length);
+/* takes up the study that was saved. The whole save is judged first; block and stores, which may hold anything before, are written
+   where the call is accepted. The stores have to have the lengths of the saved study. */
+uint32_t cichowiej_rewind(uint8_t *block, size_t block_length, const uint8_t *save, size_t save_length, double *e, size_t e_length,
+                          double *h, size_t h_length, double *media, size_t media_length, double *psi_e, size_t psi_e_length,
+                          double *psi_h, size_t psi_h_length, double *tables, size_t tables_length, double *poles,
+                          size_t poles_length, double *aux, size_t aux_length, uint32_t *ids, size_t ids_length);
 
 #ifdef __cplusplus
 }

@@ -1,17 +1,10 @@
 //! Rounds of both engines in turn, and a line for each study.
 
+use crate::clock::{self, best_and_median, seconds};
 use crate::studies::Timed;
 use compare::difference::first_difference;
 use compare::engine::Study;
 use compare::theirs::Theirs;
-use std::time::Instant;
-
-pub fn heading() -> String {
-    format!(
-        "{:<44}{:>16}{:>18}{:>9}{:>9}",
-        "study", "ours", "theirs", "ratio", "target"
-    )
-}
 
 /// Times a study; both sides must hold the same numbers at its end.
 pub fn row(study: &Timed) -> String {
@@ -30,16 +23,9 @@ pub fn row(study: &Timed) -> String {
     }
     let cells: usize = study.sizes.iter().product();
     let each = 1e9 / (cells * study.steps) as f64;
-    let [our_best, our_median] = best_and_median(our_times).map(|s| s * each);
-    let [their_best, their_median] = best_and_median(their_times).map(|s| s * each);
-    format!(
-        "{:<44}{:>16}{:>18}{:>9.2}{:>9.1}",
-        study.name,
-        format!("{our_best:.2} ({our_median:.2})"),
-        format!("{their_best:.2} ({their_median:.2})"),
-        their_best / our_best,
-        study.target
-    )
+    let ours = best_and_median(our_times, each);
+    let theirs = best_and_median(their_times, each);
+    clock::row(study.name, ours, theirs, theirs[0] / ours[0], study.target)
 }
 
 fn set_up(study: &Timed) -> (Study, Theirs) {
@@ -72,15 +58,4 @@ fn has_subnormals(study: &Study) -> bool {
 fn samples(first: usize, count: usize) -> Vec<f64> {
     let at = |n: usize| (0.3 * n as f64 + 0.1).sin();
     (first..first + count).map(at).collect()
-}
-
-fn seconds(work: impl FnOnce()) -> f64 {
-    let start = Instant::now();
-    work();
-    start.elapsed().as_secs_f64()
-}
-
-fn best_and_median(mut times: Vec<f64>) -> [f64; 2] {
-    times.sort_by(f64::total_cmp);
-    [times[0], times[times.len() / 2]]
 }

@@ -1,27 +1,28 @@
 -- A call on the record of a block, from its parts. Assumes nothing.
-use Prim.Native.Nat.{ℕ, _≤_}
+use Prim.Native.Nat.{ℕ, zero, suc, _≤_}
 use native.Mathlib.Omega.{arith}
-use mathlib.Core.Path.{_≡_, refl, ap, _∙_}
-use mathlib.Core.Bool.{Bool, true, false, cond, _&&_}
+use mathlib.Core.Path.{_≡_, refl, sym, ap, _∙_}
+use mathlib.Core.Bool.{Bool, true, false, _&&_}
 use mathlib.Core.List.{List, [], _∷_}
 use lib.Dec.{eqb}
 use lib.ListN.{length}
-use lib.Ieee.{Float}
 use borrow.Author.Tests.{eqb-true, eq-eqb, ne-eqb}
 use Rattle.codec.specs.Bytes.{nums}
 use Rattle.root.specs.declared.Spacings.{Spacings}
 use Rattle.dispersion.specs.declared.DispersiveMaterial.{DispersiveMaterial}
 use Rattle.grid.specs.declared.Record.{Record}
-use Rattle.grid.specs.Fault.{badStudy, allBelow}
-use Rattle.grid.specs.Stores.{Stores, Outcome, outcome}
-use Rattle.grid.proofs.Tests.{and-left}
-use Rattle.opening.specs.Opening.{openRecord, openCall}
+use Rattle.grid.specs.Fault.{badStudy, first, allBelow, faultOf}
+use Rattle.grid.specs.Stores.{Stores, Outcome, outcome, settle, orElse, lentFault, lengthsOf, storeLengths, sameLengths, faultLent, faultWith}
+use Rattle.grid.proofs.Settled.{turned-down}
+use Rattle.grid.proofs.Tests.{and-left, first-none, or-none, or-stays}
+use Rattle.opening.specs.Opening.{openRecord, openStores, openCall}
 use Rattle.opening.specs.Layer.{Layer}
-use Rattle.materials.specs.Materials.{addCall}
+use Rattle.materials.specs.Materials.{addFault, addCall}
 use Rattle.cpml.specs.Absorber.{Absorbed, absorbed}
 use Rattle.heads.specs.Numbers.{ghFine, mlWidths, mlFine}
 use Rattle.block.specs.Block.{blockLength, blockFine, blockRecord, blockOf, headOf, entryFine}
-use Rattle.api.specs.Blocks.{sent, blockAfter, passed, onBlock, told, readBlock, answered, answering, materialFine, materialOf, openOnBlock, addOnBlock, axisBits, Named, named, naming}
+use Rattle.format.specs.Rewind.{readRecord, readStores, bytesFault, rewindFault, rewindCall}
+use Rattle.calls.specs.Blocks.{sent, blockAfter, passed, onBlock, told, readBlock, lentBlock, openOnBlock, rewindOnBlock, answered, answering, materialFault, materialOf, addBytesFault, addBytesCall, axisBits, Named, named, naming}
 
 -- ---- the block
 pub block-long : (b : List ℕ) → blockFine b ≡ true → length b ≡ blockLength
@@ -45,76 +46,117 @@ module _ {A : Type 0} (f : Record → Outcome A) (b : List ℕ) (kept : A) where
   unfolding onBlock
   ill e = rw e
 
+  pub ill-kept : {s : A} → blockFine b ≡ false → s ≡ kept → sent badStudy b s ≡ onBlock f b kept
+  ill-kept e a = ap (λ (x : A). sent badStudy b x) a ∙ ill e
+
   pub well : {b' : List ℕ} {r q : Record} {n : ℕ} {s : A} → blockFine b ≡ true → r ≡ blockRecord b → outcome n q s ≡ f r → b' ≡ blockAfter n q b → sent n b' s ≡ onBlock f b kept
   unfolding onBlock
   well {b'} {r} {q} {n} {s} fine er eo eb =
       rw fine (ap (λ (x : List ℕ). sent n x s) eb ∙ ap (λ (o : Outcome A). passed o b) (eo ∙ ap f er))
 
--- ---- a reading
-module _ (f : Record → Outcome Float) (b : List ℕ) (nought : Float) (room : List Float) where
-  pub unread : {room' : List Float} → blockFine b ≡ false → room' ≡ answered nought room → told badStudy room' ≡ readBlock f b nought room
+-- ---- the call on a block lent to read
+module _ {A : Type 0} (f : Record → Outcome A) (b : List ℕ) (kept : A) where
+  pub unread : {s : A} → blockFine b ≡ false → s ≡ kept → told badStudy s ≡ readBlock f b kept
   unfolding readBlock
   unread e a = rw (e, a)
 
-  pub reads : {room' : List Float} {r q : Record} {n : ℕ} {v : Float} → blockFine b ≡ true → r ≡ blockRecord b → outcome n q v ≡ f r → room' ≡ answered v room → told n room' ≡ readBlock f b nought room
+  pub reads : {r q : Record} {n : ℕ} {s : A} → blockFine b ≡ true → r ≡ blockRecord b → outcome n q s ≡ f r → told n s ≡ readBlock f b kept
   unfolding readBlock
-  reads {room'} {r} {q} {n} {v} fine er eo ea =
-      rw fine (ap (λ (x : List Float). told n x) ea ∙ ap (λ (o : Outcome Float). told (o .refusal) (answered (o .rest) room)) (eo ∙ ap f er))
-
--- ---- a material's bytes
-pub material-long : (m : List ℕ) → materialFine m ≡ true → length m ≡ 125
-unfolding materialFine
-material-long m e = eqb-true (length m) 125 (and-left (eqb (length m) 125) (mlFine (nums mlWidths m)) e)
-
-pub other-length : (m : List ℕ) → (length m ≡ 125 → ⊥) → false ≡ materialFine m
-unfolding materialFine
-other-length m h = rw (ne-eqb (length m) 125 h)
-
-pub right-length : (m : List ℕ) {b : Bool} → length m ≡ 125 → b ≡ mlFine (nums mlWidths m) → b ≡ materialFine m
-unfolding materialFine
-right-length m h e = rw (eq-eqb (length m) 125 h) e
+  reads fine er eo = rw fine (ap (λ (o : Outcome A). told (o .refusal) (o .rest)) (eo ∙ ap f er))
 
 -- ---- room for an answer
 pub no-room : {A : Type 0} (l : List A) (v : A) → length l ≤ 0 → l ≡ answered v l
 no-room [] v h = refl
 no-room (x ∷ l) v h = absurd (omega arith)
 
--- ---- opening
-module _ (nx ny nz slots : ℕ) (spacings : Spacings) (b : List ℕ) (s : Stores) where
-  pub open-ill : (length b ≡ blockLength → ⊥) → sent badStudy b s ≡ openOnBlock nx ny nz slots spacings b s
-  unfolding openOnBlock
-  open-ill h = rw (ne-eqb (length b) blockLength h)
+pub answering-of : {A : Type 0} {n : ℕ} {q : Record} {v : A} {o : Outcome A} (room : List A) {room' : List A} → outcome n q v ≡ o → room' ≡ answered v room → outcome n q room' ≡ answering o room
+answering-of {A} {n} {q} room eo ea = ap (λ (x : List A). outcome n q x) ea ∙ ap (λ (x : Outcome A). answering x room) eo
 
-  pub open-well : {b' : List ℕ} {r q : Record} {n : ℕ} {s' : Stores} → length b ≡ blockLength → r ≡ openRecord nx ny nz slots spacings
-      → outcome n q s' ≡ openCall r nx ny nz slots spacings s → b' ≡ blockAfter n q b → sent n b' s' ≡ openOnBlock nx ny nz slots spacings b s
-  unfolding openOnBlock
-  open-well {b'} {r} {q} {n} {s'} h er eo eb =
-      rw (eq-eqb (length b) blockLength h)
-      (ap (λ (x : List ℕ). sent n x s') eb ∙ ap (λ (o : Outcome Stores). passed o b) (eo ∙ ap (λ (x : Record). openCall x nx ny nz slots spacings s) er))
+-- ---- a material's bytes
+pub material-long : (m : List ℕ) → materialFault m ≡ 0 → length m ≡ 125
+unfolding materialFault
+material-long m e = eqb-true (length m) 125 (first-none (eqb (length m) 125) 3 _ e .0)
 
-pub cong-and : {a b x y : Bool} → a ≡ x → b ≡ y → (a && b) ≡ (x && y)
-cong-and p q = rw (p, q)
+pub other-length : (m : List ℕ) → (length m ≡ 125 → ⊥) → 4 ≡ materialFault m
+unfolding materialFault
+other-length m h = rw (ne-eqb (length m) 125 h)
 
--- ---- a material added
-module _ (m b room : List ℕ) where
-  pub add-ill : {room' : List ℕ} → (materialFine m && blockFine b) ≡ false → room' ≡ answered 0 room → sent badStudy b room' ≡ addOnBlock m b room
-  unfolding addOnBlock onBlock
-  add-ill {room'} h e = ap (λ (x : List ℕ). sent badStudy b x) e ∙ go (materialFine m) (blockFine b) h
+pub right-length : (m : List ℕ) {t : Bool} {n : ℕ} → length m ≡ 125 → t ≡ mlFine (nums mlWidths m) → n ≡ first t 3 0 → n ≡ materialFault m
+unfolding materialFault
+right-length m h e q = rw (eq-eqb (length m) 125 h) (q ∙ ap (λ (t : Bool). first t 3 0) e)
+
+-- ---- a material added: f is the record's fault or the bytes', and the code went on or not
+module _ (m : List ℕ) (r : Record) {f own bytes : ℕ} (ef : f ≡ orElse own bytes) (eo : own ≡ faultOf r) (em : bytes ≡ materialFault m) where
+  judged-bytes : f ≡ orElse (faultOf r) (materialFault m)
+  judged-bytes = rw (← eo, ← em) ef
+
+  pub bytes-none : f ≡ 0 → (faultOf r ≡ 0) × (materialFault m ≡ 0)
+  bytes-none z = or-none (faultOf r) (materialFault m) (sym judged-bytes ∙ z)
+
+  pub add-ill : (f ≡ 0 → ⊥) → outcome f r 0 ≡ addBytesCall m r
+  unfolding addBytesCall addBytesFault
+  add-ill h = turned-down f _ r _ 0 _ (stays (faultOf r) judged-bytes) h
     where
-      go : (x y : Bool) → (x && y) ≡ false
-          → sent badStudy b (answered 0 room)
-          ≡ cond x (cond y (passed (answering (addCall (blockRecord b) (materialOf m)) room) b) (sent badStudy b (answered 0 room))) (sent badStudy b (answered 0 room))
-      go false y h = refl
-      go true false h = refl
-      go true true h = absurd (let z : _≡_ {A = ℕ} 0 1 = cc in omega arith)
+      stays : (n : ℕ) → f ≡ orElse n (materialFault m) → f ≡ orElse n (orElse (materialFault m) (addFault r (materialOf m .«pole_count»)))
+      stays zero e = or-stays f (materialFault m) _ e h
+      stays (suc n) e = e
 
-  pub add-well : {b' room' : List ℕ} {r q : Record} {d : DispersiveMaterial} {n id : ℕ} → materialFine m ≡ true → blockFine b ≡ true → d ≡ materialOf m → r ≡ blockRecord b
-      → outcome n q id ≡ addCall r d → room' ≡ answered id room → b' ≡ blockAfter n q b → sent n b' room' ≡ addOnBlock m b room
-  unfolding addOnBlock
-  add-well {b'} {room'} {r} {q} {d} {n} {id} em fine ed er eo ea eb =
-      rw em
-      (well (λ r. answering (addCall r (materialOf m)) room) b (answered 0 room) fine er
-      (ap (λ (x : List ℕ). outcome n q x) ea ∙ ap (λ (o : Outcome ℕ). answering o room) (eo ∙ ap (λ (x : DispersiveMaterial). addCall r x) ed)) eb)
+  pub add-well : {d : DispersiveMaterial} {o : Outcome ℕ} → f ≡ 0 → d ≡ materialOf m → o ≡ addCall r d → o ≡ addBytesCall m r
+  unfolding addBytesCall addBytesFault addCall
+  add-well z ed e = e ∙ ap (addCall r) ed ∙ sym (rw (bytes-none z .0, bytes-none z .1))
+
+-- ---- opening and rewind: a block of another length, where f comes before the stores' lengths; a block of the right one, where f is the whole fault
+left-alone : {A : Type 0} (n : ℕ) (r : Record) (s : A) (b : List ℕ) → sent (suc n) b s ≡ passed (outcome (suc n) r s) b
+left-alone n r s b = ap (λ (x : List ℕ). sent (suc n) x s) (kept-old (suc n) r b (λ z. let w : ⊥ = omega arith in w))
+
+lent-ill : {A : Type 0} (f : ℕ) (fits : Bool) (r r' : Record) (s s' : A) (b : List ℕ) {n : ℕ} → (length b ≡ blockLength → ⊥) → n ≡ lentFault f false
+    → sent n b s ≡ passed (settle (lentBlock (lentFault f fits) (length b)) r s r' s') b
+unfolding lentBlock
+lent-ill f fits r r' s s' b h e = rw (ne-eqb (length b) blockLength h, e) (go f fits)
+  where
+    go : (f : ℕ) (fits : Bool) → sent (lentFault f false) b s ≡ passed (settle (orElse (lentFault f fits) 4) r s r' s') b
+    go zero true = left-alone 3 r s b
+    go zero false = left-alone 3 r s b
+    go (suc f) fits = left-alone f r s b
+
+-- the standing record goes into no block
+lent-well : {A : Type 0} (f : ℕ) (standing r r' : Record) (s s' : A) (b : List ℕ) {b' : List ℕ} {q : Record} {n : ℕ} {t : A} → length b ≡ blockLength
+    → outcome n q t ≡ settle f standing s r' s' → b' ≡ blockAfter n q b → sent n b' t ≡ passed (settle (lentBlock f (length b)) r s r' s') b
+unfolding lentBlock
+lent-well {A} f standing r r' s s' b {b'} {q} {n} {t} h eo eb =
+    ap (λ (x : List ℕ). sent n x t) eb ∙ ap (λ (o : Outcome A). passed o b) eo ∙ rw (eq-eqb (length b) blockLength h) (go f)
+  where
+    go : (f : ℕ) → passed (settle f standing s r' s') b ≡ passed (settle (orElse f 0) r s r' s') b
+    go zero = refl
+    go (suc n) = sym (left-alone n standing s b) ∙ left-alone n r s b
+
+module _ (nx ny nz slots : ℕ) (spacings : Spacings) (b : List ℕ) (s : Stores) where
+  pub open-ill : {r : Record} {f n : ℕ} → (length b ≡ blockLength → ⊥) → r ≡ openRecord nx ny nz slots spacings → f ≡ faultOf r → n ≡ lentFault f false → sent n b s ≡ openOnBlock nx ny nz slots spacings b s
+  unfolding openOnBlock faultLent
+  open-ill h er ef en =
+      let r = openRecord nx ny nz slots spacings in
+      lent-ill (faultOf r) (sameLengths (lengthsOf s) (storeLengths r)) r r s (openStores r) b h (en ∙ ap (λ (x : ℕ). lentFault x false) (ef ∙ ap faultOf er))
+
+  pub open-well : (standing : Record) {b' : List ℕ} {q : Record} {n : ℕ} {s' : Stores} → length b ≡ blockLength
+      → outcome n q s' ≡ openCall standing nx ny nz slots spacings s → b' ≡ blockAfter n q b → sent n b' s' ≡ openOnBlock nx ny nz slots spacings b s
+  unfolding openOnBlock openCall
+  open-well standing h eo eb =
+      let r = openRecord nx ny nz slots spacings in
+      lent-well (faultWith r (lengthsOf s)) standing r r s (openStores r) b h eo eb
+
+module _ (save b : List ℕ) (s : Stores) where
+  pub rewind-ill : {f n : ℕ} → (length b ≡ blockLength → ⊥) → f ≡ bytesFault save → n ≡ lentFault f false → sent n b s ≡ rewindOnBlock save b s
+  unfolding rewindOnBlock rewindFault
+  rewind-ill h ef en =
+      let r = readRecord save in
+      lent-ill (bytesFault save) (sameLengths (lengthsOf s) (storeLengths r)) r r s (readStores save) b h (en ∙ ap (λ (x : ℕ). lentFault x false) ef)
+
+  pub rewind-well : (standing : Record) {b' : List ℕ} {q : Record} {n : ℕ} {s' : Stores} → length b ≡ blockLength
+      → outcome n q s' ≡ rewindCall standing s save → b' ≡ blockAfter n q b → sent n b' s' ≡ rewindOnBlock save b s
+  unfolding rewindOnBlock rewindCall
+  rewind-well standing h eo eb =
+      let r = readRecord save in
+      lent-well (rewindFault save (lengthsOf s)) standing r r s (readStores save) b h eo eb
 
 -- ---- the layer, its axes named
 pub naming-of : {n k : ℕ} {q : Record} {axes : List Bool} {s : Layer} {o : Outcome Absorbed} (room : List ℕ) {room' : List ℕ} → outcome n q (absorbed axes s) ≡ o → k ≡ axisBits axes → room' ≡ answered k room
@@ -124,4 +166,4 @@ naming-of {n} {k} {q} {axes} {s} {o} room eo ek ea =
 
 pub unnamed : (f : Record → Outcome Named) (b room : List ℕ) {room' : List ℕ} {s : Layer} → blockFine b ≡ false → room' ≡ answered 0 room
     → sent badStudy b (named room' s) ≡ onBlock f b (named (answered 0 room) s)
-unnamed f b room {room'} {s} h e = ap (λ (x : List ℕ). sent badStudy b (named x s)) e ∙ ill f b (named (answered 0 room) s) h
+unnamed f b room {room'} {s} h e = ill-kept f b (named (answered 0 room) s) h (ap (λ (x : List ℕ). named x s) e)

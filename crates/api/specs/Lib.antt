@@ -1,3 +1,2 @@
 -- What the contracts of api cite.
-pub mod Blocks
 pub mod Poles

@@ -1,11 +1,14 @@
 // What the C functions share: the record put back into its block, answers put into their room, a material's bytes.
-ghost use mathlib.Core.Bool.{true, cond};
+ghost use mathlib.Core.Bool.{cond};
 ghost use mathlib.Core.Path.{_≡_};
 ghost use Prim.Native.Nat.{_≤_};
 ghost use lib.ListN.{length};
-ghost use Rattle.api.specs.Blocks.{blockAfter, answered, axisBits, materialFine, materialOf};
+ghost use Rattle.calls.specs.Blocks.{blockAfter, answered, axisBits, materialFault, materialOf};
 use dispersion::DispersiveMaterial;
 use grid::Record;
+use grid::fault;
+use grid::fault::BAD_STUDY;
+use grid::stores::BAD_STORE;
 use heads::payloads;
 
 // The record that a call answered goes into the block where the call was accepted.
@@ -34,6 +37,14 @@ pub fn answer_number(room: &mut [u32], v: u32)
     }
 }
 
+pub fn answer_length(room: &mut [usize], v: usize)
+    ensures { λ _. ⌜ now (room .exit) ≡ answered v (now (room .entry)) ⌝ }
+{
+    if 0 < room.len() {
+        room[0] = v;
+    }
+}
+
 fn bit(on: bool, value: u32) -> u32
     ensures { λ n. ⌜ (n ≡ cond on value 0) × (n ≤ value) ⌝ }
 {
@@ -46,18 +57,18 @@ pub fn axis_bits(axes: [bool; 3]) -> u32
     bit(axes[0], 1) + bit(axes[1], 2) + bit(axes[2], 4)
 }
 
-pub fn is_material(m: &[u8]) -> bool
-    ensures { λ r. ⌜ r ≡ materialFine (now (m .entry)) ⌝ }
+pub fn material_fault(m: &[u8]) -> u32
+    ensures { λ n. ⌜ n ≡ materialFault (now (m .entry)) ⌝ }
 {
     if m.len() != 125 {
-        return false;
+        return BAD_STORE;
     }
     let n = payloads::get_ml(m, 0);
-    heads::ml_fine(n)
+    fault::first_fault(heads::ml_fine(n), BAD_STUDY, 0)
 }
 
 pub fn get_material(m: &[u8]) -> DispersiveMaterial
-    requires { ⌜ materialFine (now m) ≡ true ⌝ }
+    requires { ⌜ materialFault (now m) ≡ 0 ⌝ }
     ensures { λ r. ⌜ r ≡ materialOf (now (m .entry)) ⌝ }
 {
     let n = payloads::get_ml(m, 0);

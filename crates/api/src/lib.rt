@@ -2,7 +2,10 @@
 pub mod arithmetic;
 pub mod blocks;
 pub mod library;
+pub mod memory;
+pub mod on_block;
 pub mod readings;
+pub mod saving;
 pub mod steps;
 pub mod studies;
 pub mod walls;

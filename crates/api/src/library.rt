@@ -1,10 +1,12 @@
 // Materials: added to the study, placed in its cells, and built.
 ghost use mathlib.Core.Path.{_≡_};
 ghost use Rattle.materials.specs.Materials.{setMaterialCall, assignBoxCall, placed, halfspace, buildCall};
-ghost use Rattle.api.specs.Blocks.{sent, onBlock, addOnBlock};
-use crate::blocks;
-use cells::IndexBox;
-use grid::fault::BAD_STUDY;
+ghost use Rattle.calls.specs.Blocks.{sent, onBlock, answered, answering, addBytesCall};
+ghost use lib.ListN.{length};
+ghost use Rattle.study.specs.History.{doing};
+ghost use Rattle.study.specs.World.{setMaterial, assignBox, assignHalfspace, addMaterial, buildDispersion};
+ghost use Rattle.study.specs.Calls.{Silently, Numbering, putMedia, putPlaced, putPoles, placedOf};
+use crate::on_block;
 
 #[no_mangle]
 pub extern "C" fn cichowiej_set_material(
@@ -21,39 +23,18 @@ pub extern "C" fn cichowiej_set_material(
     media: &mut [f64],
 ) -> u32
     ensures { λ n. ⌜ sent n (now (b .exit)) (now (media .exit)) ≡ onBlock (λ r. setMaterialCall r (record { i0 = i0; i1 = i1; j0 = j0; j1 = j1; k0 = k0; k1 = k1 }) «eps_r» «mu_r» sigma (now (media .entry))) (now (b .entry)) (now (media .entry)) ⌝ }
+    ensures honest { λ n. ⌜ Silently (now (b .entry)) (now (b .exit)) (λ s. s .media ≡ now (media .entry)) (putMedia (now (media .exit))) (doing (setMaterial (record { i0 = i0; i1 = i1; j0 = j0; j1 = j1; k0 = k0; k1 = k1 }) «eps_r» «mu_r» sigma)) n ⌝ }
 {
-    if !block::is_record(b) {
-        return BAD_STUDY;
-    }
-    let r = block::get_record(b);
-    let g = IndexBox {
-        i0,
-        i1,
-        j0,
-        j1,
-        k0,
-        k1,
-    };
-    let o = materials::set_material(r, g, eps_r, mu_r, sigma, media);
-    blocks::keep(b, o.refusal, o.study);
-    o.refusal
+    on_block::library::set_material(b, i0, i1, j0, j1, k0, k1, eps_r, mu_r, sigma, media)
 }
 
 // The material is 125 bytes as in a block; its id goes into the room lent for it.
 #[no_mangle]
 pub extern "C" fn cichowiej_add_material(b: &mut [u8], material: &[u8], id: &mut [u32]) -> u32
-    ensures { λ n. ⌜ sent n (now (b .exit)) (now (id .exit)) ≡ addOnBlock (now (material .entry)) (now (b .entry)) (now (id .entry)) ⌝ }
+    ensures { λ n. ⌜ sent n (now (b .exit)) (now (id .exit)) ≡ onBlock (λ r. answering (addBytesCall (now (material .entry)) r) (now (id .entry))) (now (b .entry)) (answered 0 (now (id .entry))) ⌝ }
+    ensures honest { λ n. ⌜ Numbering (now (b .entry)) (now (b .exit)) (λ s. Unit {0}) (λ s. s) (doing (addMaterial (now (material .entry)) (length (now (id .entry))))) n (now (id .entry)) (now (id .exit)) ⌝ }
 {
-    if !(blocks::is_material(material) & block::is_record(b)) {
-        blocks::answer_number(id, 0);
-        return BAD_STUDY;
-    }
-    let m = blocks::get_material(material);
-    let r = block::get_record(b);
-    let o = materials::add_material(r, m);
-    blocks::answer_number(id, o.id);
-    blocks::keep(b, o.refusal, o.study);
-    o.refusal
+    on_block::library::add_material(b, material, id)
 }
 
 #[no_mangle]
@@ -70,22 +51,9 @@ pub extern "C" fn cichowiej_assign_material_box(
     ids: &mut [u32],
 ) -> u32
     ensures { λ n. ⌜ sent n (now (b .exit)) (placed (now (media .exit)) (now (ids .exit))) ≡ onBlock (λ r. assignBoxCall r id (record { i0 = i0; i1 = i1; j0 = j0; j1 = j1; k0 = k0; k1 = k1 }) (placed (now (media .entry)) (now (ids .entry)))) (now (b .entry)) (placed (now (media .entry)) (now (ids .entry))) ⌝ }
+    ensures honest { λ n. ⌜ Silently (now (b .entry)) (now (b .exit)) (λ s. placedOf s ≡ placed (now (media .entry)) (now (ids .entry))) (putPlaced (placed (now (media .exit)) (now (ids .exit)))) (doing (assignBox id (record { i0 = i0; i1 = i1; j0 = j0; j1 = j1; k0 = k0; k1 = k1 }))) n ⌝ }
 {
-    if !block::is_record(b) {
-        return BAD_STUDY;
-    }
-    let r = block::get_record(b);
-    let g = IndexBox {
-        i0,
-        i1,
-        j0,
-        j1,
-        k0,
-        k1,
-    };
-    let o = materials::assign_material_box(r, id, g, media, ids);
-    blocks::keep(b, o.refusal, o.study);
-    o.refusal
+    on_block::library::assign_material_box(b, id, i0, i1, j0, j1, k0, k1, media, ids)
 }
 
 #[no_mangle]
@@ -97,25 +65,15 @@ pub extern "C" fn cichowiej_assign_material_halfspace_z(
     ids: &mut [u32],
 ) -> u32
     ensures { λ n. ⌜ sent n (now (b .exit)) (placed (now (media .exit)) (now (ids .exit))) ≡ onBlock (λ r. assignBoxCall r id (halfspace r k0) (placed (now (media .entry)) (now (ids .entry)))) (now (b .entry)) (placed (now (media .entry)) (now (ids .entry))) ⌝ }
+    ensures honest { λ n. ⌜ Silently (now (b .entry)) (now (b .exit)) (λ s. placedOf s ≡ placed (now (media .entry)) (now (ids .entry))) (putPlaced (placed (now (media .exit)) (now (ids .exit)))) (doing (assignHalfspace id k0)) n ⌝ }
 {
-    if !block::is_record(b) {
-        return BAD_STUDY;
-    }
-    let r = block::get_record(b);
-    let o = materials::assign_material_halfspace_z(r, id, k0, media, ids);
-    blocks::keep(b, o.refusal, o.study);
-    o.refusal
+    on_block::library::assign_material_halfspace_z(b, id, k0, media, ids)
 }
 
 #[no_mangle]
 pub extern "C" fn cichowiej_build_dispersion(b: &mut [u8], poles: &mut [f64]) -> u32
     ensures { λ n. ⌜ sent n (now (b .exit)) (now (poles .exit)) ≡ onBlock (λ r. buildCall r (now (poles .entry))) (now (b .entry)) (now (poles .entry)) ⌝ }
+    ensures honest { λ n. ⌜ Silently (now (b .entry)) (now (b .exit)) (λ s. s .poles ≡ now (poles .entry)) (putPoles (now (poles .exit))) (doing buildDispersion) n ⌝ }
 {
-    if !block::is_record(b) {
-        return BAD_STUDY;
-    }
-    let r = block::get_record(b);
-    let o = materials::build_dispersion(r, poles);
-    blocks::keep(b, o.refusal, o.study);
-    o.refusal
+    on_block::library::build_dispersion(b, poles)
 }

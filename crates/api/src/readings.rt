@@ -3,10 +3,12 @@ ghost use mathlib.Core.Path.{_≡_};
 ghost use Rattle.root.specs.Constants.{eps0, mu0};
 ghost use Rattle.root.specs.Rounded.{zeroF};
 ghost use Rattle.fields.specs.Fields.{energyCall, planeCall};
-ghost use Rattle.api.specs.Blocks.{told, readBlock};
-use crate::blocks;
-use fields::readings;
-use grid::fault::BAD_STUDY;
+ghost use Rattle.calls.specs.Blocks.{told, readBlock, answered, answering};
+ghost use lib.ListN.{length};
+ghost use Rattle.study.specs.History.{doing};
+ghost use Rattle.study.specs.World.{totalEnergy, planeReading};
+ghost use Rattle.study.specs.Calls.{Reading};
+use crate::on_block;
 
 #[no_mangle]
 pub extern "C" fn cichowiej_total_energy(
@@ -16,16 +18,10 @@ pub extern "C" fn cichowiej_total_energy(
     media: &[f64],
     energy: &mut [f64],
 ) -> u32
-    ensures { λ n. ⌜ told n (now (energy .exit)) ≡ readBlock (λ r. energyCall eps0 mu0 r (now (e .entry)) (now (h .entry)) (now (media .entry))) (now (b .entry)) zeroF (now (energy .entry)) ⌝ }
+    ensures { λ n. ⌜ told n (now (energy .exit)) ≡ readBlock (λ r. answering (energyCall eps0 mu0 r (now (e .entry)) (now (h .entry)) (now (media .entry))) (now (energy .entry))) (now (b .entry)) (answered zeroF (now (energy .entry))) ⌝ }
+    ensures honest { λ n. ⌜ Reading (now (b .entry)) (now (b .entry)) (λ s. (s .electric ≡ now (e .entry)) × (s .magnetic ≡ now (h .entry)) × (s .media ≡ now (media .entry))) (doing (totalEnergy (length (now (energy .entry))))) n (now (energy .entry)) (now (energy .exit)) ⌝ }
 {
-    if !block::is_record(b) {
-        blocks::answer(energy, 0.0);
-        return BAD_STUDY;
-    }
-    let r = block::get_record(b);
-    let o = readings::total_energy(r, e, h, media);
-    blocks::answer(energy, o.value);
-    o.refusal
+    on_block::readings::total_energy(b, e, h, media, energy)
 }
 
 #[no_mangle]
@@ -36,14 +32,8 @@ pub extern "C" fn cichowiej_plane_reading(
     h: &[f64],
     reading: &mut [f64],
 ) -> u32
-    ensures { λ n. ⌜ told n (now (reading .exit)) ≡ readBlock (λ r. planeCall r k (now (e .entry)) (now (h .entry))) (now (b .entry)) zeroF (now (reading .entry)) ⌝ }
+    ensures { λ n. ⌜ told n (now (reading .exit)) ≡ readBlock (λ r. answering (planeCall r k (now (e .entry)) (now (h .entry))) (now (reading .entry))) (now (b .entry)) (answered zeroF (now (reading .entry))) ⌝ }
+    ensures honest { λ n. ⌜ Reading (now (b .entry)) (now (b .entry)) (λ s. (s .electric ≡ now (e .entry)) × (s .magnetic ≡ now (h .entry))) (doing (planeReading k (length (now (reading .entry))))) n (now (reading .entry)) (now (reading .exit)) ⌝ }
 {
-    if !block::is_record(b) {
-        blocks::answer(reading, 0.0);
-        return BAD_STUDY;
-    }
-    let r = block::get_record(b);
-    let o = readings::plane_reading(r, k, e, h);
-    blocks::answer(reading, o.value);
-    o.refusal
+    on_block::readings::plane_reading(b, k, e, h, reading)
 }

@@ -4,12 +4,11 @@ ghost use Rattle.root.specs.Constants.{eps0, mu0, c0};
 ghost use Rattle.grid.specs.Stores.{stores};
 ghost use Rattle.step.specs.Step.{stepCall};
 ghost use Rattle.run.specs.Run.{runCall};
-ghost use Rattle.api.specs.Blocks.{sent, onBlock};
-use crate::blocks;
-use grid::fault::BAD_STUDY;
-use root::C0;
-use root::EPS0;
-use root::MU0;
+ghost use Rattle.calls.specs.Blocks.{sent, onBlock};
+ghost use Rattle.study.specs.History.{doing};
+ghost use Rattle.study.specs.World.{step, run};
+ghost use Rattle.study.specs.Calls.{Silently};
+use crate::on_block;
 
 #[no_mangle]
 pub extern "C" fn cichowiej_step(
@@ -26,16 +25,10 @@ pub extern "C" fn cichowiej_step(
     ids: &[u32],
 ) -> u32
     ensures { λ n. ⌜ sent n (now (b .exit)) (stores (now (e .exit)) (now (h .exit)) (now (media .entry)) (now («psi_e» .exit)) (now («psi_h» .exit)) (now (tables .entry)) (now (poles .exit)) (now (aux .exit)) (now (ids .entry))) ≡ onBlock (λ r. stepCall eps0 mu0 c0 r sample (stores (now (e .entry)) (now (h .entry)) (now (media .entry)) (now («psi_e» .entry)) (now («psi_h» .entry)) (now (tables .entry)) (now (poles .entry)) (now (aux .entry)) (now (ids .entry)))) (now (b .entry)) (stores (now (e .entry)) (now (h .entry)) (now (media .entry)) (now («psi_e» .entry)) (now («psi_h» .entry)) (now (tables .entry)) (now (poles .entry)) (now (aux .entry)) (now (ids .entry))) ⌝ }
+    ensures honest { λ n. ⌜ Silently (now (b .entry)) (now (b .exit)) (λ s. s ≡ stores (now (e .entry)) (now (h .entry)) (now (media .entry)) (now («psi_e» .entry)) (now («psi_h» .entry)) (now (tables .entry)) (now (poles .entry)) (now (aux .entry)) (now (ids .entry))) (λ s. stores (now (e .exit)) (now (h .exit)) (now (media .entry)) (now («psi_e» .exit)) (now («psi_h» .exit)) (now (tables .entry)) (now (poles .exit)) (now (aux .exit)) (now (ids .entry))) (doing (step sample)) n ⌝ }
 {
-    if !block::is_record(b) {
-        return BAD_STUDY;
-    }
-    let r = block::get_record(b);
-    let o = step::step(
-        EPS0,
-        MU0,
-        C0,
-        r,
+    on_block::steps::step(
+        b,
         sample,
         e,
         h,
@@ -46,9 +39,7 @@ pub extern "C" fn cichowiej_step(
         poles,
         aux,
         ids,
-    );
-    blocks::keep(b, o.refusal, o.study);
-    o.refusal
+    )
 }
 
 #[no_mangle]
@@ -66,16 +57,10 @@ pub extern "C" fn cichowiej_run(
     ids: &[u32],
 ) -> u32
     ensures { λ n. ⌜ sent n (now (b .exit)) (stores (now (e .exit)) (now (h .exit)) (now (media .entry)) (now («psi_e» .exit)) (now («psi_h» .exit)) (now (tables .entry)) (now (poles .exit)) (now (aux .exit)) (now (ids .entry))) ≡ onBlock (λ r. runCall eps0 mu0 c0 r (now (samples .entry)) (stores (now (e .entry)) (now (h .entry)) (now (media .entry)) (now («psi_e» .entry)) (now («psi_h» .entry)) (now (tables .entry)) (now (poles .entry)) (now (aux .entry)) (now (ids .entry)))) (now (b .entry)) (stores (now (e .entry)) (now (h .entry)) (now (media .entry)) (now («psi_e» .entry)) (now («psi_h» .entry)) (now (tables .entry)) (now (poles .entry)) (now (aux .entry)) (now (ids .entry))) ⌝ }
+    ensures honest { λ n. ⌜ Silently (now (b .entry)) (now (b .exit)) (λ s. s ≡ stores (now (e .entry)) (now (h .entry)) (now (media .entry)) (now («psi_e» .entry)) (now («psi_h» .entry)) (now (tables .entry)) (now (poles .entry)) (now (aux .entry)) (now (ids .entry))) (λ s. stores (now (e .exit)) (now (h .exit)) (now (media .entry)) (now («psi_e» .exit)) (now («psi_h» .exit)) (now (tables .entry)) (now (poles .exit)) (now (aux .exit)) (now (ids .entry))) (doing (run (now (samples .entry)))) n ⌝ }
 {
-    if !block::is_record(b) {
-        return BAD_STUDY;
-    }
-    let r = block::get_record(b);
-    let o = run::run(
-        EPS0,
-        MU0,
-        C0,
-        r,
+    on_block::steps::run(
+        b,
         samples,
         e,
         h,
@@ -86,7 +71,5 @@ pub extern "C" fn cichowiej_run(
         poles,
         aux,
         ids,
-    );
-    blocks::keep(b, o.refusal, o.study);
-    o.refusal
+    )
 }

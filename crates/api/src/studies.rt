@@ -2,11 +2,13 @@
 ghost use mathlib.Core.Path.{_≡_};
 ghost use Rattle.grid.specs.Stores.{stores};
 ghost use Rattle.fields.specs.Fields.{reset, resetCall};
-ghost use Rattle.api.specs.Blocks.{sent, onBlock, openOnBlock};
-use crate::blocks;
-use fields::reset;
-use grid::fault::BAD_STUDY;
-use root::Spacings;
+ghost use Rattle.calls.specs.Blocks.{sent, onBlock, openOnBlock};
+ghost use lib.ListN.{length};
+ghost use Rattle.grid.specs.Stores.{lengthsOf};
+ghost use Rattle.study.specs.History.{doing, opening};
+ghost use Rattle.study.specs.World.{resetFields};
+ghost use Rattle.study.specs.Calls.{Silently, putReset, resetOf};
+use crate::on_block;
 
 #[no_mangle]
 pub extern "C" fn cichowiej_open(
@@ -30,19 +32,18 @@ pub extern "C" fn cichowiej_open(
     ids: &mut [u32],
 ) -> u32
     ensures { λ n. ⌜ sent n (now (b .exit)) (stores (now (e .exit)) (now (h .exit)) (now (media .exit)) (now («psi_e» .exit)) (now («psi_h» .exit)) (now (tables .exit)) (now (poles .exit)) (now (aux .exit)) (now (ids .exit))) ≡ openOnBlock nx ny nz «pole_slots» (record { dx = dx; dy = dy; dz = dz; dt = dt }) (now (b .entry)) (stores (now (e .entry)) (now (h .entry)) (now (media .entry)) (now («psi_e» .entry)) (now («psi_h» .entry)) (now (tables .entry)) (now (poles .entry)) (now (aux .entry)) (now (ids .entry))) ⌝ }
+    ensures honest { λ n. ⌜ Silently (now (b .entry)) (now (b .exit)) (λ s. s ≡ stores (now (e .entry)) (now (h .entry)) (now (media .entry)) (now («psi_e» .entry)) (now («psi_h» .entry)) (now (tables .entry)) (now (poles .entry)) (now (aux .entry)) (now (ids .entry))) (λ s. stores (now (e .exit)) (now (h .exit)) (now (media .exit)) (now («psi_e» .exit)) (now («psi_h» .exit)) (now (tables .exit)) (now (poles .exit)) (now (aux .exit)) (now (ids .exit))) (opening (record { nx = nx; ny = ny; nz = nz; slots = «pole_slots»; spacings = record { dx = dx; dy = dy; dz = dz; dt = dt } }) (record { block = length (now (b .entry)); stores = lengthsOf (stores (now (e .entry)) (now (h .entry)) (now (media .entry)) (now («psi_e» .entry)) (now («psi_h» .entry)) (now (tables .entry)) (now (poles .entry)) (now (aux .entry)) (now (ids .entry))) })) n ⌝ }
 {
-    if b.len() != 2073 {
-        return BAD_STUDY;
-    }
-    let spacings = Spacings { dx, dy, dz, dt };
-    let r = opening::open_record(nx, ny, nz, pole_slots, spacings);
-    let o = opening::new_rect(
-        r,
+    on_block::studies::open(
+        b,
         nx,
         ny,
         nz,
         pole_slots,
-        spacings,
+        dx,
+        dy,
+        dz,
+        dt,
         e,
         h,
         media,
@@ -52,9 +53,7 @@ pub extern "C" fn cichowiej_open(
         poles,
         aux,
         ids,
-    );
-    blocks::keep(b, o.refusal, o.study);
-    o.refusal
+    )
 }
 
 #[no_mangle]
@@ -67,12 +66,7 @@ pub extern "C" fn cichowiej_reset_fields(
     poles: &mut [f64],
 ) -> u32
     ensures { λ n. ⌜ sent n (now (b .exit)) (reset (now (e .exit)) (now (h .exit)) (now («psi_e» .exit)) (now («psi_h» .exit)) (now (poles .exit))) ≡ onBlock (λ r. resetCall r (reset (now (e .entry)) (now (h .entry)) (now («psi_e» .entry)) (now («psi_h» .entry)) (now (poles .entry)))) (now (b .entry)) (reset (now (e .entry)) (now (h .entry)) (now («psi_e» .entry)) (now («psi_h» .entry)) (now (poles .entry))) ⌝ }
+    ensures honest { λ n. ⌜ Silently (now (b .entry)) (now (b .exit)) (λ s. resetOf s ≡ reset (now (e .entry)) (now (h .entry)) (now («psi_e» .entry)) (now («psi_h» .entry)) (now (poles .entry))) (putReset (reset (now (e .exit)) (now (h .exit)) (now («psi_e» .exit)) (now («psi_h» .exit)) (now (poles .exit)))) (doing resetFields) n ⌝ }
 {
-    if !block::is_record(b) {
-        return BAD_STUDY;
-    }
-    let r = block::get_record(b);
-    let o = reset::reset_fields(r, e, h, psi_e, psi_h, poles);
-    blocks::keep(b, o.refusal, o.study);
-    o.refusal
+    on_block::studies::reset_fields(b, e, h, psi_e, psi_h, poles)
 }

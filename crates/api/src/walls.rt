@@ -5,24 +5,19 @@ ghost use mathlib.Core.List.{[], _∷_};
 ghost use Rattle.opening.specs.Layer.{layer};
 ghost use Rattle.boundary.specs.Walls.{setPeriodicCall, setPlainCall, lossed, setLossyCall};
 ghost use Rattle.cpml.specs.Absorber.{setCpmlCall};
-ghost use Rattle.api.specs.Blocks.{sent, onBlock, answered, naming, named};
-use crate::blocks;
-use boundary::LossyAbsorber;
-use boundary::walls;
-use cpml::absorber;
-use grid::fault::BAD_STUDY;
+ghost use Rattle.calls.specs.Blocks.{sent, onBlock, answered, naming, named};
+ghost use lib.ListN.{length};
+ghost use Rattle.study.specs.History.{doing};
+ghost use Rattle.study.specs.World.{setPeriodic, wallsPeriodic, wallsConductor, wallsLossy, wallsCpml};
+ghost use Rattle.study.specs.Calls.{Silently, Numbering, putLayer, putLossed, layerOf, lossedOf};
+use crate::on_block;
 
 #[no_mangle]
 pub extern "C" fn cichowiej_set_periodic(b: &mut [u8], x: bool, y: bool, z: bool) -> u32
     ensures { λ n. ⌜ sent n (now (b .exit)) tt ≡ onBlock (λ r. setPeriodicCall r (x ∷ y ∷ z ∷ [])) (now (b .entry)) tt ⌝ }
+    ensures honest { λ n. ⌜ Silently (now (b .entry)) (now (b .exit)) (λ s. Unit {0}) (λ s. s) (doing (setPeriodic x y z)) n ⌝ }
 {
-    if !block::is_record(b) {
-        return BAD_STUDY;
-    }
-    let r = block::get_record(b);
-    let o = walls::set_periodic(r, [x, y, z]);
-    blocks::keep(b, o.refusal, o.study);
-    o.refusal
+    on_block::walls::set_periodic(b, x, y, z)
 }
 
 #[no_mangle]
@@ -33,14 +28,9 @@ pub extern "C" fn cichowiej_set_boundary_periodic(
     tables: &mut [f64],
 ) -> u32
     ensures { λ n. ⌜ sent n (now (b .exit)) (layer (now («psi_e» .exit)) (now («psi_h» .exit)) (now (tables .exit))) ≡ onBlock (λ r. setPlainCall true r (layer (now («psi_e» .entry)) (now («psi_h» .entry)) (now (tables .entry)))) (now (b .entry)) (layer (now («psi_e» .entry)) (now («psi_h» .entry)) (now (tables .entry))) ⌝ }
+    ensures honest { λ n. ⌜ Silently (now (b .entry)) (now (b .exit)) (λ s. layerOf s ≡ layer (now («psi_e» .entry)) (now («psi_h» .entry)) (now (tables .entry))) (putLayer (layer (now («psi_e» .exit)) (now («psi_h» .exit)) (now (tables .exit)))) (doing wallsPeriodic) n ⌝ }
 {
-    if !block::is_record(b) {
-        return BAD_STUDY;
-    }
-    let r = block::get_record(b);
-    let o = walls::set_boundary_periodic(r, psi_e, psi_h, tables);
-    blocks::keep(b, o.refusal, o.study);
-    o.refusal
+    on_block::walls::set_boundary_periodic(b, psi_e, psi_h, tables)
 }
 
 #[no_mangle]
@@ -51,14 +41,9 @@ pub extern "C" fn cichowiej_set_boundary_conductor(
     tables: &mut [f64],
 ) -> u32
     ensures { λ n. ⌜ sent n (now (b .exit)) (layer (now («psi_e» .exit)) (now («psi_h» .exit)) (now (tables .exit))) ≡ onBlock (λ r. setPlainCall false r (layer (now («psi_e» .entry)) (now («psi_h» .entry)) (now (tables .entry)))) (now (b .entry)) (layer (now («psi_e» .entry)) (now («psi_h» .entry)) (now (tables .entry))) ⌝ }
+    ensures honest { λ n. ⌜ Silently (now (b .entry)) (now (b .exit)) (λ s. layerOf s ≡ layer (now («psi_e» .entry)) (now («psi_h» .entry)) (now (tables .entry))) (putLayer (layer (now («psi_e» .exit)) (now («psi_h» .exit)) (now (tables .exit)))) (doing wallsConductor) n ⌝ }
 {
-    if !block::is_record(b) {
-        return BAD_STUDY;
-    }
-    let r = block::get_record(b);
-    let o = walls::set_boundary_conductor(r, psi_e, psi_h, tables);
-    blocks::keep(b, o.refusal, o.study);
-    o.refusal
+    on_block::walls::set_boundary_conductor(b, psi_e, psi_h, tables)
 }
 
 #[no_mangle]
@@ -73,19 +58,9 @@ pub extern "C" fn cichowiej_set_boundary_lossy(
     media: &mut [f64],
 ) -> u32
     ensures { λ n. ⌜ sent n (now (b .exit)) (lossed (now («psi_e» .exit)) (now («psi_h» .exit)) (now (tables .exit)) (now (media .exit))) ≡ onBlock (λ r. setLossyCall r (record { thickness = thickness; order = order; «sigma_max» = «sigma_max» }) (lossed (now («psi_e» .entry)) (now («psi_h» .entry)) (now (tables .entry)) (now (media .entry)))) (now (b .entry)) (lossed (now («psi_e» .entry)) (now («psi_h» .entry)) (now (tables .entry)) (now (media .entry))) ⌝ }
+    ensures honest { λ n. ⌜ Silently (now (b .entry)) (now (b .exit)) (λ s. lossedOf s ≡ lossed (now («psi_e» .entry)) (now («psi_h» .entry)) (now (tables .entry)) (now (media .entry))) (putLossed (lossed (now («psi_e» .exit)) (now («psi_h» .exit)) (now (tables .exit)) (now (media .exit)))) (doing (wallsLossy (record { thickness = thickness; order = order; «sigma_max» = «sigma_max» }))) n ⌝ }
 {
-    if !block::is_record(b) {
-        return BAD_STUDY;
-    }
-    let r = block::get_record(b);
-    let a = LossyAbsorber {
-        thickness,
-        order,
-        sigma_max,
-    };
-    let o = walls::set_boundary_lossy(r, a, psi_e, psi_h, tables, media);
-    blocks::keep(b, o.refusal, o.study);
-    o.refusal
+    on_block::walls::set_boundary_lossy(b, thickness, order, sigma_max, psi_e, psi_h, tables, media)
 }
 
 // Which axes are active goes into the room lent for it: 1 x, 2 y, 4 z, added.
@@ -103,15 +78,7 @@ pub extern "C" fn cichowiej_set_boundary_cpml(
     active: &mut [u32],
 ) -> u32
     ensures { λ n. ⌜ sent n (now (b .exit)) (named (now (active .exit)) (layer (now («psi_e» .exit)) (now («psi_h» .exit)) (now (tables .exit)))) ≡ onBlock (λ r. naming (setCpmlCall r (x ∷ y ∷ z ∷ []) thickness (now (given .entry)) (layer (now («psi_e» .entry)) (now («psi_h» .entry)) (now (tables .entry)))) (now (active .entry))) (now (b .entry)) (named (answered 0 (now (active .entry))) (layer (now («psi_e» .entry)) (now («psi_h» .entry)) (now (tables .entry)))) ⌝ }
+    ensures honest { λ n. ⌜ Numbering (now (b .entry)) (now (b .exit)) (λ s. layerOf s ≡ layer (now («psi_e» .entry)) (now («psi_h» .entry)) (now (tables .entry))) (putLayer (layer (now («psi_e» .exit)) (now («psi_h» .exit)) (now (tables .exit)))) (doing (wallsCpml x y z thickness (now (given .entry)) (length (now (active .entry))))) n (now (active .entry)) (now (active .exit)) ⌝ }
 {
-    if !block::is_record(b) {
-        blocks::answer_number(active, 0);
-        return BAD_STUDY;
-    }
-    let r = block::get_record(b);
-    let o = absorber::set_boundary_cpml(r, [x, y, z], thickness, given, psi_e, psi_h, tables);
-    let axes = o.active;
-    blocks::answer_number(active, blocks::axis_bits(axes));
-    blocks::keep(b, o.refusal, o.study);
-    o.refusal
+    on_block::walls::set_boundary_cpml(b, x, y, z, thickness, given, psi_e, psi_h, tables, active)
 }

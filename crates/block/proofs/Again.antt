@@ -77,7 +77,7 @@ twenty-again : (l : List ℕ) (x y z : ℕ) (a b c d : List ℕ) → length l �
 unfolding joined
 twenty-again l x y z a b c d e p q r i j k m = rw (p, q, r, i, j, k, m) (places l 20 e)
 
-material-again : (l : List ℕ) → length l ≡ 20 → T (fitAll mlWidths l) → mlFine l ≡ true → mlNums (mlOf l) ≡ l
+pub material-again : (l : List ℕ) → length l ≡ 20 → T (fitAll mlWidths l) → mlFine l ≡ true → mlNums (mlOf l) ≡ l
 unfolding mlNums mlOf mlFine
 material-again l e t f =
     let n : ℕ → ℕ = λ i. getD l i 0 in
@@ -189,7 +189,7 @@ flags-of l t =
       f13 = and-right (a && b && c && d && e && f && g) h t;
     }
 
-head-again : (l : List ℕ) (ms : List DispersiveMaterial) → length l ≡ 26 → T (fitAll ghWidths l) → ghFine l ≡ true → ghNums (ghOf l ms) ≡ l
+pub head-again : (l : List ℕ) (ms : List DispersiveMaterial) → length l ≡ 26 → T (fitAll ghWidths l) → ghFine l ≡ true → ghNums (ghOf l ms) ≡ l
 unfolding ghNums ghOf ghFine cornersFine
 head-again l ms e t f =
     let n : ℕ → ℕ = λ i. getD l i 0 in

@@ -32,7 +32,7 @@ slot-held t a b c = go (eqb t 1) (eqb t 2)
     go false true = and-i (held (ofBits binary64 a)) _ (any a) (any b)
     go false false = and-i (held (ofBits binary64 a)) _ (any a) (any b)
 
-read-held : (l : List ℕ) → MaterialHeld (mlOf l)
+pub read-held : (l : List ℕ) → MaterialHeld (mlOf l)
 unfolding mlOf
 read-held l = record {
   eps = any (getD l 0 0);
@@ -56,7 +56,7 @@ blank-held (suc (suc zero)) h = slot-held 0 0 0 0
 blank-held (suc (suc (suc zero))) h = slot-held 0 0 0 0
 blank-held (suc (suc (suc (suc i)))) h = absurd (let z : ⊥ = omega arith in z)
 
-vacuum-held : MaterialHeld vacuumMaterial
+pub vacuum-held : MaterialHeld vacuumMaterial
 vacuum-held = record { eps = any 0x3FF0000000000000; loss = any 0; mu = any 0x3FF0000000000000; four = refl; each = blank-held }
 
 entry-held : (b : List ℕ) (i : ℕ) → MaterialHeld (entryOf b i)
@@ -67,7 +67,7 @@ entry-held b i = go (counted b i)
     go true = read-held (entryAt b i)
     go false = vacuum-held
 
-head-held : (l : List ℕ) (ms : List DispersiveMaterial) → getD l 25 0 ≤ 4294967295 → length ms ≡ 16 → ((i : ℕ) → i < 16 → MaterialHeld (getD ms i beyond)) → Held (ghOf l ms)
+pub head-held : (l : List ℕ) (ms : List DispersiveMaterial) → getD l 25 0 ≤ 4294967295 → length ms ≡ 16 → ((i : ℕ) → i < 16 → MaterialHeld (getD ms i beyond)) → Held (ghOf l ms)
 unfolding ghOf
 head-held l ms small e h = record {
   walls = (refl, refl);

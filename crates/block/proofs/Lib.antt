@@ -4,5 +4,4 @@ pub mod Entry
 pub mod Head
 pub mod Back
 pub mod Decoded
-pub mod Owned
 pub mod Again

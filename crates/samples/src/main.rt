@@ -1,4 +1,5 @@
 // The sample studies of document 01 that are not in the theorem, run and compared with what the document says.
+pub mod small;
 pub mod waves;
 
 ghost use mathlib.Core.Path.{_≡_};
@@ -187,5 +188,10 @@ fn main() {
     say(
         b"a wave's line after one step and two",
         waves::wave_sent(3.0, 0.5),
+    );
+    say(b"a fresh save of 1,388 bytes", small::has_1388());
+    say(
+        b"1,387 of them are 13, 1,389 are 16",
+        small::one_less_one_more(),
     );
 }

@@ -16,6 +16,16 @@ impl fmt::Debug for Numbers {
     }
 }
 
+/// Bytes that a printed history only counts.
+#[derive(Clone, PartialEq)]
+pub struct Bytes(pub Vec<u8>);
+
+impl fmt::Debug for Bytes {
+    fn fmt(&self, f: &mut fmt::Formatter) -> fmt::Result {
+        write!(f, "{} bytes", self.0.len())
+    }
+}
+
 /// Cells and corners are i0, i1, j0, j1, k0, k1.
 #[derive(Debug, Clone)]
 pub enum Call {
@@ -64,6 +74,10 @@ pub enum Call {
     ResetFields,
     TotalEnergy,
     PlaneReading(usize),
+    SaveLength,
+    /// Into room of so many bytes.
+    Save(usize),
+    Rewind(Bytes),
     /// No call: the caller writes into a store of its own.
     Fill(Fill),
     /// No call: the caller puts another number of steps into the block.
@@ -79,6 +93,11 @@ impl Call {
         let text = format!("{self:?}");
         let end = text.find(|c: char| !c.is_alphanumeric());
         text[..end.unwrap_or(text.len())].to_string()
+    }
+
+    /// Whether it is the caller's own writing, and no call of the engine.
+    pub fn is_by_hand(&self) -> bool {
+        matches!(self, Call::Fill(_) | Call::PutSteps(_) | Call::PutActive(_))
     }
 }
 
@@ -125,6 +144,9 @@ impl Study {
             Call::PlaneReading(k) => {
                 return self.read(|study, reading| study.plane_reading(*k, reading));
             }
+            Call::SaveLength => return self.measured(),
+            Call::Save(room) => return self.saved(*room),
+            Call::Rewind(save) => self.rewind(&save.0),
             Call::Fill(fill) => {
                 fill.write(self);
                 0
@@ -138,9 +160,6 @@ impl Study {
                 0
             }
         };
-        Answer {
-            refusal,
-            further: 0.0,
-        }
+        Answer::new(refusal, 0.0)
     }
 }

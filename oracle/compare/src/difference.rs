@@ -29,10 +29,10 @@ fn first<T>(a: &[T], b: &[T], equal: impl Fn(&T, &T) -> bool) -> Option<usize> {
 
 /// Whether two studies have the same bits everywhere, those of NaNs included.
 pub fn untouched(a: &Study, b: &Study) -> bool {
-    let bits = |study: &Study| -> Vec<u64> {
-        let stores = study.stores();
-        let numbers = stores.iter().flat_map(|(_, store)| store.iter());
-        numbers.map(|x| x.to_bits()).collect()
+    let bits = |store: &[f64], other: &[f64]| {
+        let mut pairs = store.iter().zip(other);
+        store.len() == other.len() && pairs.all(|(x, y)| x.to_bits() == y.to_bits())
     };
-    a.block == b.block && a.ids == b.ids && bits(a) == bits(b)
+    let mut stores = a.stores().into_iter().zip(b.stores());
+    a.block == b.block && a.ids == b.ids && stores.all(|((_, x), (_, y))| bits(x, y))
 }

@@ -3,7 +3,7 @@
 pub mod block;
 mod study;
 
-pub use study::{Answer, Study};
+pub use study::{Answer, BEFORE, Study};
 
 unsafe extern "C" {
     pub safe fn cichowiej_eps0() -> f64;
@@ -284,6 +284,60 @@ unsafe extern "C" {
         h_length: usize,
         reading: *mut f64,
         reading_length: usize,
+    ) -> u32;
+    fn cichowiej_save_length(
+        block: *const u8,
+        block_length: usize,
+        length: *mut usize,
+        length_length: usize,
+    ) -> u32;
+    fn cichowiej_save(
+        block: *const u8,
+        block_length: usize,
+        e: *const f64,
+        e_length: usize,
+        h: *const f64,
+        h_length: usize,
+        media: *const f64,
+        media_length: usize,
+        psi_e: *const f64,
+        psi_e_length: usize,
+        psi_h: *const f64,
+        psi_h_length: usize,
+        tables: *const f64,
+        tables_length: usize,
+        poles: *const f64,
+        poles_length: usize,
+        aux: *const f64,
+        aux_length: usize,
+        ids: *const u32,
+        ids_length: usize,
+        out: *mut u8,
+        out_length: usize,
+    ) -> u32;
+    fn cichowiej_rewind(
+        block: *mut u8,
+        block_length: usize,
+        save: *const u8,
+        save_length: usize,
+        e: *mut f64,
+        e_length: usize,
+        h: *mut f64,
+        h_length: usize,
+        media: *mut f64,
+        media_length: usize,
+        psi_e: *mut f64,
+        psi_e_length: usize,
+        psi_h: *mut f64,
+        psi_h_length: usize,
+        tables: *mut f64,
+        tables_length: usize,
+        poles: *mut f64,
+        poles_length: usize,
+        aux: *mut f64,
+        aux_length: usize,
+        ids: *mut u32,
+        ids_length: usize,
     ) -> u32;
 }
 

@@ -2,7 +2,8 @@
 
 use crate::call::Call;
 use crate::engine::Study;
-use crate::engine::block::{self, MATERIALS, PLACES, Record};
+use crate::engine::block::{self, MATERIAL, MATERIALS, PLACES, Record};
+use crate::save;
 
 pub const BAD_SIZE: u32 = 1;
 pub const BAD_SPACING: u32 = 2;
@@ -15,21 +16,30 @@ pub const STALE_MATERIAL: u32 = 8;
 pub const BAD_REGION: u32 = 9;
 pub const BAD_ORDER: u32 = 10;
 pub const SPENT_CLOCK: u32 = 11;
+pub const NO_ROOM: u32 = 12;
+pub const SHORT: u32 = 13;
+pub const BAD_MARK: u32 = 14;
+pub const BAD_RECORD: u32 = 15;
+pub const TRAILING: u32 = 16;
 pub const NO_SUCH_PLANE: u32 = 17;
 
 /// The refusal's number, 0 where the call is accepted.
 pub fn refusal(study: &Study, call: &Call) -> u32 {
-    if matches!(call, Call::Fill(_) | Call::PutSteps(_) | Call::PutActive(_)) {
-        return 0;
+    match call {
+        Call::Open {
+            sizes,
+            pole_slots,
+            spacings,
+        } => opening(study, *sizes, *pole_slots, *spacings),
+        Call::Rewind(save) => rewinding(study, &save.0),
+        Call::AddMaterial(m) => adding(study, &m.write()),
+        call if call.is_by_hand() => 0,
+        call => standing(study, call),
     }
-    if let Call::Open {
-        sizes,
-        pole_slots,
-        spacings,
-    } = call
-    {
-        return opening(study, *sizes, *pole_slots, *spacings);
-    }
+}
+
+/// Of a call on the standing record.
+fn standing(study: &Study, call: &Call) -> u32 {
     let Some(record) = study.record() else {
         return BAD_STUDY;
     };
@@ -57,11 +67,8 @@ fn spacings_fit(spacings: [f64; 4]) -> bool {
     spacings.iter().all(|x| x.is_finite() && *x > 0.0)
 }
 
-/// The standing block is not judged, but it has to have a block's length.
+/// The standing block is not judged, but it has to have a block's length, as a store has its own.
 fn opening(study: &Study, sizes: [usize; 3], pole_slots: usize, spacings: [f64; 4]) -> u32 {
-    if study.block.len() != block::LENGTH {
-        return BAD_STUDY;
-    }
     if !sizes_fit(sizes) {
         return BAD_SIZE;
     }
@@ -72,26 +79,65 @@ fn opening(study: &Study, sizes: [usize; 3], pole_slots: usize, spacings: [f64; 
     ])
 }
 
-/// Refusals 1 to 3 of a record.
-pub fn fault(record: &Record) -> u32 {
+/// Of a save's bytes, and then of what is lent to be written.
+fn rewinding(study: &Study, bytes: &[u8]) -> u32 {
+    match save::read(bytes) {
+        Err(number) => number,
+        Ok(saved) => {
+            let record = saved.record().unwrap();
+            let fits = all_fit(study, record.sizes, record.pole_slots.into());
+            when(!fits, BAD_STORE)
+        }
+    }
+}
+
+/// Of a material's bytes that are to be added.
+pub fn adding(study: &Study, bytes: &[u8]) -> u32 {
+    let Some(record) = study.record() else {
+        return BAD_STUDY;
+    };
+    let material = block::read_material(bytes);
+    let poles = material.as_ref().map_or(0, |m| m.pole_count);
     first([
-        when(!sizes_fit(record.sizes), BAD_SIZE),
-        when(!spacings_fit(record.spacings), BAD_SPACING),
-        when(contradicts(record), BAD_STUDY),
+        fault(&record),
+        when(bytes.len() == MATERIAL && material.is_none(), BAD_STUDY),
+        when(bytes.len() != MATERIAL, BAD_STORE),
+        when(poles > record.pole_slots, TOO_MANY_POLES),
+        when(usize::from(record.material_count) == MATERIALS, FULL),
     ])
 }
 
-fn contradicts(record: &Record) -> bool {
+/// Refusals 1 to 3 of a record.
+pub fn fault(record: &Record) -> u32 {
+    first([
+        head_fault(record),
+        when(library_contradicts(record), BAD_STUDY),
+    ])
+}
+
+/// Refusals 1 to 3 by the head alone, without a look at the materials.
+pub fn head_fault(record: &Record) -> u32 {
+    first([
+        when(!sizes_fit(record.sizes), BAD_SIZE),
+        when(!spacings_fit(record.spacings), BAD_SPACING),
+        when(head_contradicts(record), BAD_STUDY),
+    ])
+}
+
+fn head_contradicts(record: &Record) -> bool {
     let counts = [record.built_count, record.pole_slots, record.material_count].map(usize::from);
     let [built, slots, materials] = counts;
-    let poles = |at: usize| usize::from(record.materials[at].pole_count);
     slots > PLACES
         || !(1..=MATERIALS).contains(&materials)
         || built > materials
-        || (0..materials).any(|at| poles(at) > slots)
-        || poles(0) != 0
         || (!record.layer_on && record.active.contains(&true))
         || (record.region.kind != 0 && !region_fits(record.sizes, record.region.corners))
+}
+
+fn library_contradicts(record: &Record) -> bool {
+    let mut poles = record.materials.iter().map(|m| m.pole_count);
+    let first = poles.next();
+    first.is_some_and(|n| n != 0) || poles.any(|n| n > record.pole_slots)
 }
 
 fn region_fits([nx, ny, nz]: [usize; 3], [i0, i1, j0, j1, k0, k1]: [usize; 6]) -> bool {
@@ -122,9 +168,11 @@ fn length(study: &Study, store: usize) -> usize {
         .map_or(study.ids.len(), |(_, s)| s.len())
 }
 
+/// Whether the block and every store have their lengths.
 fn all_fit(study: &Study, sizes: [usize; 3], pole_slots: usize) -> bool {
     let lengths = lengths(sizes, pole_slots);
-    (0..9).all(|store| length(study, store) == lengths[store])
+    let fits = |store| length(study, store) == lengths[store];
+    study.block.len() == block::LENGTH && (0..9).all(fits)
 }
 
 /// Which stores a call is lent, by their places in `lengths`.
@@ -136,11 +184,13 @@ pub fn lent(call: &Call) -> &'static [usize] {
         Call::Periodic | Call::Conductor | Call::Cpml { .. } => &[3, 4, 5],
         Call::Lossy { .. } => &[2, 3, 4, 5],
         Call::Slab { .. } | Call::Injector { .. } | Call::BoxRegion(_) => &[7],
-        Call::Open { .. } | Call::Step(_) | Call::Run(_) => &[0, 1, 2, 3, 4, 5, 6, 7, 8],
+        Call::Open { .. } | Call::Step(_) | Call::Run(_) | Call::Save(_) | Call::Rewind(_) => {
+            &[0, 1, 2, 3, 4, 5, 6, 7, 8]
+        }
         Call::ResetFields => &[0, 1, 3, 4, 6],
         Call::TotalEnergy => &[0, 1, 2],
         Call::PlaneReading(_) => &[0, 1],
-        Call::AddMaterial(_) | Call::SetPeriodic(_) => &[],
+        Call::AddMaterial(_) | Call::SetPeriodic(_) | Call::SaveLength => &[],
         Call::Fill(_) | Call::PutSteps(_) | Call::PutActive(_) => &[],
     }
 }
@@ -162,10 +212,6 @@ fn own(study: &Study, record: &Record, call: &Call) -> u32 {
     let [nx, ny, nz] = record.sizes;
     let region = |corners| when(!region_fits(record.sizes, corners), BAD_REGION);
     match call {
-        Call::AddMaterial(m) => first([
-            when(m.pole_count > record.pole_slots, TOO_MANY_POLES),
-            when(usize::from(record.material_count) == MATERIALS, FULL),
-        ]),
         Call::AssignBox { id, .. } | Call::AssignHalfspace { id, .. } => {
             when(*id >= record.material_count.into(), NO_SUCH_MATERIAL)
         }
@@ -176,6 +222,7 @@ fn own(study: &Study, record: &Record, call: &Call) -> u32 {
         Call::Step(_) => steps(study, record, 1),
         Call::Run(samples) => steps(study, record, samples.len()),
         Call::PlaneReading(k) => when(*k >= nz, NO_SUCH_PLANE),
+        Call::Save(room) => when(*room < save::length(record), NO_ROOM),
         _ => 0,
     }
 }

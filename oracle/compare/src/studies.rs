@@ -1,19 +1,14 @@
 //! Random studies: a history of calls, each handed to the engine and to the original.
 
-mod choose;
 mod tally;
 
-use std::panic::{AssertUnwindSafe, catch_unwind};
-
-use crate::Random;
 use crate::call::Call;
+use crate::choose::Chooser;
 use crate::difference::first_difference;
 use crate::engine::{Answer, Study};
-use crate::fill::{Fill, STORES};
 use crate::theirs::Theirs;
-use crate::{agree, judge};
+use crate::{Random, complaint, judge};
 
-use choose::Chooser;
 pub use tally::Tally;
 
 /// Plays the study of a seed. A difference says the seed, the calls up to it and the first number.
@@ -21,17 +16,12 @@ pub fn play(seed: u64, tally: &mut Tally) {
     let mut random = Random::new(seed);
     let chooser = Chooser::new(&mut random);
     let mut history = Vec::new();
-    let played = catch_unwind(AssertUnwindSafe(|| {
+    let said = complaint(|| {
         Pair::open(&chooser, &mut history).play(&chooser, &mut random, &mut history, tally)
-    }));
-    if let Err(fault) = played {
-        let said = fault.downcast_ref::<String>().cloned();
-        let said = said.or(fault.downcast_ref::<&str>().map(|s| s.to_string()));
+    });
+    if let Some(said) = said {
         let calls: String = history.iter().map(|call| format!("  {call:?}\n")).collect();
-        panic!(
-            "study of seed {seed}: {}\nafter the calls\n{calls}",
-            said.unwrap_or_default()
-        );
+        panic!("study of seed {seed}: {said}\nafter the calls\n{calls}");
     }
     tally.studies += 1;
 }
@@ -45,11 +35,7 @@ struct Pair {
 impl Pair {
     fn open(chooser: &Chooser, history: &mut Vec<Call>) -> Self {
         let (sizes, pole_slots, spacings) = (chooser.sizes, chooser.pole_slots, chooser.spacings);
-        let call = Call::Open {
-            sizes,
-            pole_slots,
-            spacings,
-        };
+        let call = chooser.opening();
         let mut ours = Study::lent(sizes, pole_slots);
         assert_eq!(judge::refusal(&ours, &call), 0);
         history.push(call.clone());
@@ -58,11 +44,7 @@ impl Pair {
             ours,
             theirs: Theirs::open(sizes, pole_slots, spacings),
         };
-        let expected = Answer {
-            refusal: 0,
-            further: 0.0,
-        };
-        pair.check(expected, answer);
+        pair.check(&Answer::new(0, 0.0), &answer);
         pair
     }
 
@@ -73,16 +55,8 @@ impl Pair {
         history: &mut Vec<Call>,
         tally: &mut Tally,
     ) {
-        for _ in 0..chooser.library {
-            self.both(Call::AddMaterial(chooser.material(random)), history, tally);
-        }
-        for store in STORES {
-            let fill = Fill {
-                store,
-                seed: random.bits(),
-                mix: chooser.mix,
-            };
-            self.both(Call::Fill(fill), history, tally);
+        for call in chooser.first(random) {
+            self.both(call, history, tally);
         }
         for done in 0..chooser.calls {
             let record = self.theirs.expected.record().unwrap();
@@ -96,15 +70,15 @@ impl Pair {
         history.push(call.clone());
         let expected = self.theirs.apply(&call);
         let got = self.ours.apply(&call);
-        self.check(expected, got);
+        self.check(&expected, &got);
         tally.count(&call, got.refusal, &self.theirs.expected);
     }
 
-    fn check(&self, expected: Answer, got: Answer) {
+    fn check(&self, expected: &Answer, got: &Answer) {
         assert_eq!(got.refusal, expected.refusal, "refusal");
         assert!(
-            agree(got.further, expected.further),
-            "further answer {:016X} in place of {:016X}",
+            got.agrees(expected),
+            "further answer {:016X} in place of {:016X}, or another save",
             got.further.to_bits(),
             expected.further.to_bits()
         );

@@ -11,8 +11,8 @@ use phyz_em::tfsf::Tfsf;
 
 use crate::agree;
 use crate::call::Call;
-use crate::engine::{Answer, Study};
-use crate::judge;
+use crate::engine::{Answer, BEFORE, Study};
+use crate::{judge, save};
 
 pub use arrays::built_tables;
 use arrays::tables_of;
@@ -57,13 +57,28 @@ impl Theirs {
     /// The call on the original, where document 01 accepts it, and the answer that is expected.
     pub fn apply(&mut self, call: &Call) -> Answer {
         let refusal = judge::refusal(&self.expected, call);
-        let answer = |refusal, further| Answer { refusal, further };
-        if refusal != 0 {
-            return answer(refusal, 0.0);
-        }
-        let further = self.perform(call);
+        let further = match refusal {
+            0 => self.perform(call),
+            _ => 0.0,
+        };
         self.read();
-        answer(0, further)
+        Answer {
+            room: self.room(call, refusal),
+            ..Answer::new(refusal, further)
+        }
+    }
+
+    /// The room lent to a save as the call has to leave it.
+    fn room(&self, call: &Call, refusal: u32) -> Vec<u8> {
+        let Call::Save(length) = call else {
+            return Vec::new();
+        };
+        let mut room = match refusal {
+            0 => save::write(&self.expected),
+            _ => Vec::new(),
+        };
+        room.resize(*length, BEFORE);
+        room
     }
 
     /// An accepted call; the number that it answers further.
@@ -119,6 +134,9 @@ impl Theirs {
             }
             Call::TotalEnergy => return grid.total_energy(),
             Call::PlaneReading(k) => return self.plane_reading(*k),
+            Call::SaveLength => return save::length(&self.record()) as f64,
+            Call::Save(_) => {}
+            Call::Rewind(_) => panic!("the original has no saves to go back to"),
             Call::Fill(fill) => {
                 fill.write(&mut self.expected);
                 self.write();

@@ -11,23 +11,18 @@ fn studies() {}
 #[cfg(original)]
 mod original {
     use compare::studies::{Tally, play};
-    use std::env;
+    use compare::variable;
 
     const STUDIES: u64 = 1_000;
-
-    fn number(name: &str) -> Option<u64> {
-        let text = env::var(name).ok()?;
-        Some(text.parse().expect("a whole number"))
-    }
 
     #[test]
     fn studies() {
         let mut tally = Tally::default();
-        if let Some(seed) = number("CICHOWIEJ_SEED") {
+        if let Some(seed) = variable("CICHOWIEJ_SEED") {
             play(seed, &mut tally);
             return tally.report();
         }
-        let studies = number("CICHOWIEJ_STUDIES").unwrap_or(STUDIES);
+        let studies = variable("CICHOWIEJ_STUDIES").unwrap_or(STUDIES);
         for seed in 0..studies {
             play(seed, &mut tally);
         }

@@ -17,6 +17,7 @@ mod comparison {
     pub mod fill;
     pub mod judge;
     pub mod random;
+    pub mod save;
     #[cfg(original)]
     pub mod theirs;
 }
@@ -30,7 +31,7 @@ mod write;
 use comparison::random::{Mix, Random};
 #[cfg(original)]
 use comparison::theirs;
-use comparison::{call, engine, fill, judge};
+use comparison::{call, engine, fill, judge, save};
 
 /// Equal in every bit, with all NaNs counted as one.
 fn agree(a: f64, b: f64) -> bool {

@@ -11,7 +11,8 @@ pub const STEPS: usize = 69;
 /// Where doubles stand in the head, and in a material up to its first place.
 pub const DOUBLES: [usize; 5] = [29, 37, 45, 53, 61];
 
-const NAN: u64 = 0x7FF8_0000_0000_0000;
+/// The one NaN that stands in blocks and saves.
+pub const NAN: u64 = 0x7FF8_0000_0000_0000;
 
 /// A pole as its tag (1 Lorentz, 2 Drude, 3 Debye) and three numbers.
 #[derive(Debug, Clone, PartialEq)]
@@ -135,6 +136,16 @@ impl Reader<'_> {
     }
 }
 
+/// The head of a block read, with no material in the record; none where it is no head.
+pub fn read_head(bytes: &[u8]) -> Option<Record> {
+    if bytes.len() != HEAD {
+        return None;
+    }
+    let mut reader = Reader { bytes, fine: true };
+    let record = reader.head();
+    reader.fine.then_some(record)
+}
+
 /// A material's bytes read; none where they are no material's.
 pub fn read_material(bytes: &[u8]) -> Option<Material> {
     if bytes.len() != MATERIAL {
@@ -152,17 +163,16 @@ impl Record {
         if block.len() != LENGTH {
             return None;
         }
-        let (bytes, entries) = block.split_at(HEAD);
-        let mut reader = Reader { bytes, fine: true };
-        let mut record = reader.head();
+        let (head, entries) = block.split_at(HEAD);
+        let mut record = read_head(head)?;
         for (i, entry) in entries.chunks(MATERIAL).enumerate() {
             if i < usize::from(record.material_count) {
                 record.materials.push(read_material(entry)?);
-            } else {
-                reader.fine &= entry.iter().all(|b| *b == 0);
+            } else if entry.iter().any(|b| *b != 0) {
+                return None;
             }
         }
-        reader.fine.then_some(record)
+        Some(record)
     }
 
     pub fn write(&self) -> Vec<u8> {
@@ -211,7 +221,8 @@ impl Material {
     }
 }
 
-fn double(x: f64) -> [u8; 8] {
+/// A double's bytes, with every NaN as the one.
+pub fn double(x: f64) -> [u8; 8] {
     let bits = if x.is_nan() { NAN } else { x.to_bits() };
     bits.to_le_bytes()
 }

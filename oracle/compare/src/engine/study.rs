@@ -2,6 +2,7 @@
 
 use super::block::Record;
 use super::*;
+use crate::agree;
 
 /// The block and the nine stores, in the order of the header's table.
 #[derive(Clone)]
@@ -18,15 +19,34 @@ pub struct Study {
     pub ids: Vec<u32>,
 }
 
-/// The refusal's number, and what the call answers further (an id, axes, a reading; else 0).
-#[derive(Debug, Clone, Copy)]
+/// The refusal's number, and what the call answers further (an id, axes, a reading, a length; else
+/// 0). Of a save it has the room too, as the call left it.
+#[derive(Debug, Clone)]
 pub struct Answer {
     pub refusal: u32,
     pub further: f64,
+    pub room: Vec<u8>,
+}
+
+impl Answer {
+    pub fn new(refusal: u32, further: f64) -> Self {
+        let room = Vec::new();
+        Self {
+            refusal,
+            further,
+            room,
+        }
+    }
+
+    pub fn agrees(&self, other: &Self) -> bool {
+        self.refusal == other.refusal
+            && agree(self.further, other.further)
+            && self.room == other.room
+    }
 }
 
 /// What stands in the room for a further answer before a call.
-const BEFORE: u32 = 77;
+pub const BEFORE: u8 = 77;
 
 /// Calls a function: `mut x` lends x to be written and `ref x` to be read, each as two arguments.
 macro_rules! call {
@@ -208,23 +228,52 @@ impl Study {
         call!(cichowiej_plane_reading, ref self.block, k, ref self.e, ref self.h, mut reading,)
     }
 
+    /// The save's length goes into the first place of the room.
+    pub fn save_length(&self, length: &mut [usize]) -> u32 {
+        call!(cichowiej_save_length, ref self.block, mut length,)
+    }
+
+    pub fn save(&self, out: &mut [u8]) -> u32 {
+        call!(cichowiej_save, ref self.block, ref self.e, ref self.h, ref self.media,
+            ref self.psi_e, ref self.psi_h, ref self.tables, ref self.poles, ref self.aux,
+            ref self.ids, mut out,)
+    }
+
+    pub fn rewind(&mut self, save: &[u8]) -> u32 {
+        call!(cichowiej_rewind, mut self.block, ref save, mut self.e, mut self.h, mut self.media,
+            mut self.psi_e, mut self.psi_h, mut self.tables, mut self.poles, mut self.aux,
+            mut self.ids,)
+    }
+
     /// A call that answers a number into room for one.
     pub fn counted(&mut self, f: impl FnOnce(&mut Self, &mut [u32]) -> u32) -> Answer {
-        let mut room = [BEFORE];
+        let mut room = [BEFORE.into()];
         let refusal = f(self, &mut room);
-        Answer {
-            refusal,
-            further: f64::from(room[0]),
-        }
+        Answer::new(refusal, f64::from(room[0]))
     }
 
     /// A call that reads a number into room for one.
     pub fn read(&self, f: impl FnOnce(&Self, &mut [f64]) -> u32) -> Answer {
-        let mut room = [f64::from(BEFORE)];
+        let mut room = [BEFORE.into()];
         let refusal = f(self, &mut room);
+        Answer::new(refusal, room[0])
+    }
+
+    /// The save's length, in room for one.
+    pub fn measured(&self) -> Answer {
+        let mut room = [BEFORE.into()];
+        let refusal = self.save_length(&mut room);
+        Answer::new(refusal, room[0] as f64)
+    }
+
+    /// The study saved into room of so many bytes.
+    pub fn saved(&self, length: usize) -> Answer {
+        let mut room = vec![BEFORE; length];
+        let refusal = self.save(&mut room);
         Answer {
             refusal,
-            further: room[0],
+            further: 0.0,
+            room,
         }
     }
 }

@@ -2,8 +2,8 @@
 
 use std::collections::BTreeMap;
 
-use super::choose::{LONG_ROW, row_axis};
 use crate::call::Call;
+use crate::choose::{LONG_ROW, row_axis};
 use crate::engine::Study;
 use crate::report;
 
@@ -72,7 +72,7 @@ impl Tally {
 
     /// Every kind of call, every refusal that a study can bring on and every kind of step was there.
     pub fn is_varied(&self) -> bool {
-        self.calls.len() == 22 && self.refusals.len() == 9 && self.steps.len() == 15
+        self.calls.len() == 24 && self.refusals.len() == 10 && self.steps.len() == 15
     }
 }
 

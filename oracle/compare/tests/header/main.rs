@@ -3,17 +3,13 @@
 
 mod signatures;
 
-use compare::engine::{cichowiej_eps0, cichowiej_mu0};
-use compare::report;
+use compare::engine::{block, cichowiej_eps0, cichowiej_mu0};
+use compare::{judge, report, top};
 use signatures::{Signatures, of_header, of_source};
+use std::collections::BTreeMap;
 use std::fs;
-use std::path::{Path, PathBuf};
+use std::path::Path;
 use std::process::Command;
-
-fn top() -> PathBuf {
-    let package = Path::new(env!("CARGO_MANIFEST_DIR"));
-    package.ancestors().nth(2).unwrap().into()
-}
 
 fn header() -> Signatures {
     of_header(&fs::read_to_string(top().join("include/cichowiej.h")).unwrap())
@@ -54,6 +50,43 @@ fn the_declarations_here_are_the_headers() {
     same(&header(), &of_source(text, "fn "), "compare/src/engine.rs");
 }
 
+/// The header's numbers are the ones that the judge goes by.
+#[test]
+fn the_numbers_are_the_judges() {
+    let text = fs::read_to_string(top().join("include/cichowiej.h")).unwrap();
+    let defined = text.lines().filter_map(|line| {
+        let mut words = line.strip_prefix("#define CICHOWIEJ_")?.split_whitespace();
+        Some((words.next()?, words.next()?.parse::<usize>().ok()?))
+    });
+    let refusals = [
+        ("ACCEPTED", 0),
+        ("BAD_SIZE", judge::BAD_SIZE),
+        ("BAD_SPACING", judge::BAD_SPACING),
+        ("BAD_STUDY", judge::BAD_STUDY),
+        ("BAD_STORE", judge::BAD_STORE),
+        ("FULL", judge::FULL),
+        ("TOO_MANY_POLES", judge::TOO_MANY_POLES),
+        ("NO_SUCH_MATERIAL", judge::NO_SUCH_MATERIAL),
+        ("STALE_MATERIAL", judge::STALE_MATERIAL),
+        ("BAD_REGION", judge::BAD_REGION),
+        ("BAD_ORDER", judge::BAD_ORDER),
+        ("SPENT_CLOCK", judge::SPENT_CLOCK),
+        ("NO_ROOM", judge::NO_ROOM),
+        ("SHORT", judge::SHORT),
+        ("BAD_MARK", judge::BAD_MARK),
+        ("BAD_RECORD", judge::BAD_RECORD),
+        ("TRAILING", judge::TRAILING),
+        ("NO_SUCH_PLANE", judge::NO_SUCH_PLANE),
+    ];
+    let lengths = [
+        ("BLOCK_LENGTH", block::LENGTH),
+        ("MATERIAL_LENGTH", block::MATERIAL),
+    ];
+    let refusals = refusals.map(|(name, number)| (name, number as usize));
+    let expected: BTreeMap<&str, usize> = refusals.into_iter().chain(lengths).collect();
+    assert_eq!(defined.collect::<BTreeMap<_, _>>(), expected);
+}
+
 /// Compiles the caller with every warning an error, and answers what it prints.
 fn caller() -> String {
     let program = Path::new(env!("CARGO_TARGET_TMPDIR")).join("caller");
@@ -77,7 +110,8 @@ fn caller() -> String {
     String::from_utf8(ran.stdout).unwrap()
 }
 
-/// Document 01's sample study: the source alone has moved, and its place holds the sample.
+/// Document 01's sample study: the source alone has moved, and its place holds the sample. Then
+/// readings, and a number that a rewind brings back.
 #[test]
 fn a_caller_in_c() {
     let energy = 0.5 * cichowiej_eps0() * 4.0 + 0.5 * cichowiej_mu0() * 9.0;
@@ -90,6 +124,11 @@ fn a_caller_in_c() {
         format!("plane 5: refusal 0, {:016X}", 6f64.to_bits()),
         format!("plane 40: refusal 17, {:016X}", 0f64.to_bits()),
         format!("energy: refusal 0, {:016X}", energy.to_bits()),
+        "save length: refusal 0, 11528".to_string(),
+        "save: refusal 0, GH".to_string(),
+        "save, no room: refusal 12".to_string(),
+        format!("rewind, short: refusal 13, {:016X}", 0f64.to_bits()),
+        format!("rewind: refusal 0, {:016X}", 2f64.to_bits()),
     ];
     assert_eq!(caller().lines().collect::<Vec<_>>(), lines);
 }

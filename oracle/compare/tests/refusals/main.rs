@@ -3,12 +3,15 @@
 mod standing;
 
 use compare::call::{Call, Numbers};
-use compare::difference::untouched;
-use compare::engine::Study;
+use compare::difference::{first_difference, untouched};
 use compare::engine::block::{self, Record};
+use compare::engine::{BEFORE, Study};
 use compare::judge::*;
-use compare::{EDGES, Random, SIGN, report};
-use standing::{SIZES, SLOTS, SPACINGS, calls, material, study, tables};
+use compare::{EDGES, Random, SIGN, report, save};
+use standing::{SIZES, SLOTS, SPACINGS, calls, material, rewinding, study, tables};
+
+/// The calls that do not judge their block come first among all calls.
+const NOT_JUDGED: usize = 2;
 
 /// Hands a call to a copy of the study: the refusal is the one that is due, and then nothing has
 /// changed and the further answer is 0.
@@ -19,6 +22,8 @@ fn due(study: &Study, call: &Call, refusal: u32) {
     if refusal != 0 {
         assert!(untouched(study, &after), "{call:?} refused, and written");
         assert_eq!(answer.further.to_bits(), 0, "{call:?}");
+        let room = answer.room.iter().all(|b| *b == BEFORE);
+        assert!(room, "{call:?} refused, and its room written");
     } else {
         assert!(after.record().is_some(), "{call:?} left no record");
     }
@@ -65,13 +70,15 @@ fn stores_of_another_length() {
     }
 }
 
+/// Such a block is no record; to opening and rewind it is one more store.
 #[test]
 fn blocks_of_another_length() {
-    for call in calls() {
+    for (at, call) in calls().iter().enumerate() {
         for length in [0, 1, block::HEAD, block::LENGTH - 1, block::LENGTH + 1] {
             let mut study = study();
             study.block.resize(length, 0);
-            due(&study, &call, BAD_STUDY);
+            let judged = at >= NOT_JUDGED;
+            due(&study, call, if judged { BAD_STUDY } else { BAD_STORE });
         }
     }
 }
@@ -123,7 +130,7 @@ fn blocks_with_an_odd_double() {
             let mut study = standing.clone();
             study.block[at..at + 8].copy_from_slice(&bits.to_le_bytes());
             let nan = f64::from_bits(bits).is_nan() && bits != 0x7FF8_0000_0000_0000;
-            let call = &calls[1 + random.index(calls.len() - 1)];
+            let call = &calls[NOT_JUDGED + random.index(calls.len() - NOT_JUDGED)];
             let number = judged(&study, call);
             assert!(!nan || number == BAD_STUDY, "{bits:016X} at {at}");
         }
@@ -220,6 +227,35 @@ fn openings() {
     due(&blank, &standing::opening(), 0);
 }
 
+/// What is handed to opening comes first, and then the lengths of block and stores.
+#[test]
+fn openings_into_a_block_of_another_length() {
+    for length in [0, block::LENGTH - 1, block::LENGTH + 1] {
+        let mut short = study();
+        short.block.resize(length, 0);
+        due(&short, &open([0, 3, 4], 5, [0.0; 4]), BAD_SIZE);
+        due(&short, &open(SIZES, 5, [0.0; 4]), BAD_SPACING);
+        due(&short, &open(SIZES, 5, SPACINGS), BAD_STUDY);
+        due(&short, &standing::opening(), BAD_STORE);
+    }
+}
+
+/// A rewind judges neither the block's bytes nor a record in it, and gives what the save holds.
+#[test]
+fn a_rewind_over_any_block() {
+    let call = rewinding();
+    let mut after = study();
+    due(&after, &call, 0);
+    assert_eq!(after.apply(&call).refusal, 0);
+    for byte in [0, 1, 0xFF] {
+        let mut blank = study();
+        blank.block.fill(byte);
+        due(&blank, &call, 0);
+        assert_eq!(blank.apply(&call).refusal, 0);
+        assert_eq!(first_difference(&after, &blank), None);
+    }
+}
+
 #[test]
 fn refusals_of_single_calls() {
     let mut full = study();
@@ -262,6 +298,14 @@ fn refusals_of_single_calls() {
     due(&standing, &Call::BoxRegion([0, 2, 0, 0, 0, 0]), BAD_REGION);
     due(&standing, &Call::BoxRegion([0, 0, 2, 1, 0, 0]), BAD_REGION);
     due(&standing, &Call::BoxRegion([0, 0, 0, 3, 0, 0]), BAD_REGION);
+
+    let length = save::length(&standing.record().unwrap());
+    for room in [0, 1, length / 2, length - 1] {
+        due(&standing, &Call::Save(room), NO_ROOM);
+    }
+    let mut short = standing;
+    short.aux.pop();
+    due(&short, &Call::Save(0), BAD_STORE);
 }
 
 /// A material that was added after dispersion was built comes before a spent clock.
@@ -288,7 +332,7 @@ fn a_run_into_the_last_step() {
     let (mut whole, mut single) = (standing.clone(), standing);
     assert_eq!(whole.run(&[1.0, 2.0]), 0);
     assert_eq!([1.0, 2.0].map(|x| single.step(x)), [0, 0]);
-    assert!(compare::difference::first_difference(&single, &whole).is_none());
+    assert_eq!(first_difference(&single, &whole), None);
     assert_eq!(whole.record().unwrap().steps, u32::MAX);
 }
 
@@ -320,6 +364,12 @@ fn room_for_a_further_answer() {
         );
         assert_eq!(active, [4, 7][..length]);
 
+        let mut lengths = vec![7; length];
+        study.block[12] = 0;
+        assert_eq!(study.save_length(&mut lengths), BAD_STUDY);
+        assert_eq!(lengths, [0, 7][..length]);
+        study.block[12] = 1;
+
         let mut numbers = vec![7.0; length];
         assert_eq!(study.plane_reading(9, &mut numbers), NO_SUCH_PLANE);
         assert_eq!(numbers, [0.0, 7.0][..length]);
@@ -330,9 +380,9 @@ fn room_for_a_further_answer() {
     }
 }
 
-/// Bytes that are no material's are refused as a block that is no record is.
-#[test]
-fn bytes_that_are_no_material() {
+/// Bytes that are no material's: 125 of them are refused as a block that is no record is, and another
+/// number of them as a store of another length.
+fn no_materials() -> Vec<Vec<u8>> {
     let good = material(&[3]).write();
     let mut all = vec![Vec::new(), good[1..].to_vec(), [&good[..], &[0]].concat()];
     for (at, value) in [
@@ -351,11 +401,57 @@ fn bytes_that_are_no_material() {
         }
         all.push(bytes);
     }
-    for bytes in all {
-        let standing = study();
-        let mut after = standing.clone();
-        let mut id = [7];
-        assert_eq!(after.add_material(&bytes, &mut id), BAD_STUDY);
-        assert!(untouched(&standing, &after) && id == [0]);
+    all
+}
+
+/// The bytes handed to a copy of the study.
+fn added(standing: &Study, bytes: &[u8], refusal: u32) {
+    assert_eq!(adding(standing, bytes), refusal);
+    let mut after = standing.clone();
+    let mut id = [7];
+    assert_eq!(after.add_material(bytes, &mut id), refusal);
+    assert!(untouched(standing, &after) && id == [0]);
+}
+
+#[test]
+fn bytes_that_are_no_material() {
+    let mut full = study();
+    while full.record().unwrap().material_count < 16 {
+        let more = Call::AddMaterial(material(&[]));
+        assert_eq!(full.apply(&more).refusal, 0);
+    }
+    for bytes in no_materials() {
+        let number = match bytes.len() {
+            block::MATERIAL => BAD_STUDY,
+            _ => BAD_STORE,
+        };
+        added(&study(), &bytes, number);
+        added(&full, &bytes, number);
+    }
+}
+
+/// What is wrong with the record comes before what is wrong with the bytes.
+#[test]
+fn no_material_for_a_record_with_a_fault() {
+    let record = study().record().unwrap();
+    let spoilt: [(u32, fn(&mut Record)); 5] = [
+        (BAD_SIZE, |r| r.sizes[1] = 513),
+        (BAD_SPACING, |r| r.spacings[3] = 0.0),
+        (BAD_STUDY, |r| r.pole_slots = 5),
+        (BAD_STUDY, |r| r.region.kind = 4),
+        (BAD_STUDY, |r| r.materials[0] = material(&[1])),
+    ];
+    for (number, spoil) in spoilt {
+        let (mut spoilt, mut study) = (record.clone(), study());
+        spoil(&mut spoilt);
+        study.block = spoilt.write();
+        for bytes in no_materials() {
+            added(&study, &bytes, number);
+        }
+    }
+    let mut short = study();
+    short.block.pop();
+    for bytes in no_materials() {
+        added(&short, &bytes, BAD_STUDY);
     }
 }

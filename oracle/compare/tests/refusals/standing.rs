@@ -1,10 +1,10 @@
 //! A study with something of everything in it, and a call of every kind that it accepts.
 
-use compare::call::{Call, Numbers};
+use compare::call::{Bytes, Call, Numbers};
 use compare::engine::Study;
 use compare::engine::block::{Material, Pole};
 use compare::fill::{Fill, STORES, Store};
-use compare::{Mix, Random};
+use compare::{Mix, Random, save};
 
 pub const SIZES: [usize; 3] = [2, 3, 4];
 pub const SLOTS: usize = 2;
@@ -77,11 +77,21 @@ fn fill(store: Store, random: &mut Random) -> Call {
     })
 }
 
-/// Every call, each accepted.
+/// To a save of another study of the same sizes and slots.
+pub fn rewinding() -> Call {
+    let mut other = study();
+    assert_eq!(other.apply(&Call::AddMaterial(material(&[3]))).refusal, 0);
+    assert_eq!(other.run(&[2.0; 3]), 0);
+    Call::Rewind(Bytes(save::write(&other)))
+}
+
+/// Every call, each accepted. The first two do not judge the block that is handed to them.
 pub fn calls() -> Vec<Call> {
     let cells = [0, 2, 0, 2, 1, 3];
+    let length = save::length(&study().record().unwrap());
     vec![
         opening(),
+        rewinding(),
         Call::SetMaterial {
             cells,
             numbers: [2.0, 1.0, 0.5],
@@ -111,5 +121,8 @@ pub fn calls() -> Vec<Call> {
         Call::ResetFields,
         Call::TotalEnergy,
         Call::PlaneReading(3),
+        Call::SaveLength,
+        Call::Save(length),
+        Call::Save(length + 5),
     ]
 }

@@ -33,8 +33,8 @@ cichowiej-ade-coeffs-spec =
     tie.close
     (tie.spec
     returns
-    (λ c κs. search needs)
-    (λ c κs. search needs)
+    (λ c κs. tt)
+    (λ c κs. tt)
     (λ c. omega (arith, three-long c))
     (λ c. simp length-set (omega (arith, three-long c)))
     (λ c. simp length-set (omega (arith, three-long c)))

@@ -1,10 +1,9 @@
-use borrow.Author.Needs.{needs}
 use Prim.Native.Nat.{ℕ}
 use mathlib.Core.Path.{ap, _∙_}
 use mathlib.Core.List.{List}
 use native.Mathlib.Omega.{arith}
 use Rattle.heads.specs.Numbers.{mlOf}
-use Rattle.api.specs.Blocks.{materialOf}
+use Rattle.calls.specs.Blocks.{materialOf}
 use Rattle.api.proofs.Passing.{material-long}
 use Rattle.api.proofs.blocks.get_material.Statement.{statement}
 use Rattle.api.proofs.blocks.get_material.Tie as tie
@@ -21,5 +20,5 @@ get-material-spec =
     tie.close
     (tie.spec
     get-ml-requires
-    (λ c κs. search needs)
+    (λ c κs. tt)
     returns)

@@ -1,4 +1,3 @@
-use borrow.Author.Needs.{needs}
 use Rattle.api.proofs.Passing.{kept-new, kept-old}
 use Rattle.api.proofs.blocks.keep.Statement.{statement}
 use Rattle.api.proofs.blocks.keep.Tie as tie
@@ -13,7 +12,7 @@ pub keep-spec : {M : Type 1} → statement M
 keep-spec =
     tie.close
     (tie.spec
-    (λ c κs. search needs)
-    (λ c. search needs)
+    (λ c κs. c .before .before .before .pre)
+    (λ c. c .before .before .put-record .kept .0)
     returns
     returns-2)

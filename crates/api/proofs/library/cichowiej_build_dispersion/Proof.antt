@@ -1,31 +1,16 @@
 use borrow.Author.Needs.{needs}
-use Rattle.grid.proofs.Tests.{unless, met}
-use Rattle.api.proofs.Passing.{block-long, ill, well}
+use Rattle.study.proofs.Entries.{«cichowiej_build_dispersion»}
 use Rattle.api.proofs.library.cichowiej_build_dispersion.Statement.{statement}
 use Rattle.api.proofs.library.cichowiej_build_dispersion.Tie as tie
 
 returns : tie.Need-returns
-returns c = ill _ _ _ (unless (c .before .is-record .ensures) (c .if1 .taken))
-
-get-record-requires : tie.Need-get-record-requires
-get-record-requires c κs = met (c .before .before .is-record .ensures) (c .before .if1 .left)
-
-keep-requires : tie.Need-keep-requires
-keep-requires c κs = block-long _ (met (c .before .before .before .before .before .before .before .before .is-record .ensures) (c .before .before .before .before .before .before .before .if1 .left))
-
-returns-2 : tie.Need-returns-2
-returns-2 c = well _ _ _ (met (c .before .before .before .before .before .before .before .before .before .before .before .is-record .ensures) (c .before .before .before .before .before .before .before .before .before .before .if1 .left)) (c .before .before .before .before .before .before .before .before .get-record .ensures) (c .before .before .before .before .before .before .build-dispersion .ensures) (c .before .before .keep .ensures)
+returns c = let e = c .before .before .before .before .build-dispersion .ensures in (e, «cichowiej_build_dispersion» _ _ _ _ _ e)
 
 pub cichowiej-build-dispersion-spec : {M : Type 1} → statement M
 cichowiej-build-dispersion-spec =
     tie.close
     (tie.spec
     (λ c κs. search needs)
-    (λ c. search needs)
-    returns
-    get-record-requires
-    (λ c κs. search needs)
-    keep-requires
-    (λ c. search needs)
-    (λ c. search needs)
-    returns-2)
+    (λ c. c .before .before .before .before .build-dispersion .kept .0)
+    (λ c. c .before .before .before .before .build-dispersion .kept .1 .0)
+    returns)

@@ -1,37 +1,22 @@
 use borrow.Author.Needs.{needs}
-use Rattle.grid.proofs.Tests.{unless, met}
-use Rattle.api.proofs.Passing.{block-long, ill, well}
-use Rattle.api.proofs.Vacuum.{run-vacuum}
+use Rattle.study.proofs.Holding.{all-held}
+use Rattle.study.proofs.Entries.{«cichowiej_run»}
 use Rattle.api.proofs.steps.cichowiej_run.Statement.{statement}
 use Rattle.api.proofs.steps.cichowiej_run.Tie as tie
 
 returns : tie.Need-returns
-returns c = ill _ _ _ (unless (c .before .is-record .ensures) (c .if1 .taken))
-
-get-record-requires : tie.Need-get-record-requires
-get-record-requires c κs = met (c .before .before .is-record .ensures) (c .before .if1 .left)
-
-keep-requires : tie.Need-keep-requires
-keep-requires c κs = block-long _ (met (c .before .before .before .before .before .before .before .before .before .before .before .before .before .before .before .before .before .before .before .before .before .before .before .is-record .ensures) (c .before .before .before .before .before .before .before .before .before .before .before .before .before .before .before .before .before .before .before .before .before .before .if1 .left))
-
-returns-2 : tie.Need-returns-2
-returns-2 c = well _ _ _ (met (c .before .before .before .before .before .before .before .before .before .before .before .before .before .before .before .before .before .before .before .before .before .before .before .before .before .before .is-record .ensures) (c .before .before .before .before .before .before .before .before .before .before .before .before .before .before .before .before .before .before .before .before .before .before .before .before .before .if1 .left)) (c .before .before .before .before .before .before .before .before .before .before .before .before .before .before .before .before .before .before .before .before .before .before .before .get-record .ensures) (run-vacuum _ _ _ (c .before .before .before .before .before .before .before .before .before .before .before .before .before .before .before .before .run .ensures)) (c .before .before .keep .ensures)
+returns c = let e = c .before .before .before .before .before .before .before .before .before .before .before .before .before .before .run .ensures in (e, «cichowiej_run» _ _ _ _ _ _ (all-held _ (λ i. c .before .before .before .before .before .before .before .before .before .before .before .before .before .before .before .before .before .before .before .before .before .before .before .before .before .before .before .before .before .before .before .shared-slice-known .given i)) e)
 
 pub cichowiej-run-spec : {M : Type 1} → statement M
 cichowiej-run-spec =
     tie.close
     (tie.spec
     (λ c κs. search needs)
-    (λ c. search needs)
-    returns
-    get-record-requires
-    (λ c κs. search needs)
-    keep-requires
-    (λ c. c .before .before .keep .kept .0)
-    (λ c. c .before .before .before .before .before .before .before .before .before .before .before .before .before .before .before .before .run .kept .1 .1 .1 .1 .1 .0)
-    (λ c. c .before .before .before .before .before .before .before .before .before .before .before .before .before .before .before .before .run .kept .1 .1 .1 .1 .1 .1 .0)
-    (λ c. c .before .before .before .before .before .before .before .before .before .before .before .before .before .before .before .before .run .kept .1 .1 .1 .1 .1 .1 .1 .1 .0)
-    (λ c. c .before .before .before .before .before .before .before .before .before .before .before .before .before .before .before .before .run .kept .1 .1 .1 .1 .1 .1 .1 .1 .1 .0)
-    (λ c. c .before .before .before .before .before .before .before .before .before .before .before .before .before .before .before .before .run .kept .1 .1 .1 .1 .1 .1 .1 .1 .1 .1 .1 .0)
-    (λ c. c .before .before .before .before .before .before .before .before .before .before .before .before .before .before .before .before .run .kept .1 .1 .1 .1 .1 .1 .1 .1 .1 .1 .1 .1 .0)
-    returns-2)
+    (λ c. c .before .before .before .before .before .before .before .before .before .before .before .before .before .before .run .kept .0)
+    (λ c. c .before .before .before .before .before .before .before .before .before .before .before .before .before .before .run .kept .1 .1 .0)
+    (λ c. c .before .before .before .before .before .before .before .before .before .before .before .before .before .before .run .kept .1 .1 .1 .0)
+    (λ c. c .before .before .before .before .before .before .before .before .before .before .before .before .before .before .run .kept .1 .1 .1 .1 .1 .0)
+    (λ c. c .before .before .before .before .before .before .before .before .before .before .before .before .before .before .run .kept .1 .1 .1 .1 .1 .1 .0)
+    (λ c. c .before .before .before .before .before .before .before .before .before .before .before .before .before .before .run .kept .1 .1 .1 .1 .1 .1 .1 .1 .0)
+    (λ c. c .before .before .before .before .before .before .before .before .before .before .before .before .before .before .run .kept .1 .1 .1 .1 .1 .1 .1 .1 .1 .0)
+    returns)

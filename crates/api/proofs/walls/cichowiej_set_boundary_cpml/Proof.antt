@@ -1,38 +1,20 @@
 use borrow.Author.Needs.{needs}
-use Rattle.grid.proofs.Tests.{unless, met}
-use Rattle.api.proofs.Passing.{block-long, well, naming-of, unnamed}
+use Rattle.study.proofs.Holding.{all-held}
+use Rattle.study.proofs.Entries.{«cichowiej_set_boundary_cpml»}
 use Rattle.api.proofs.walls.cichowiej_set_boundary_cpml.Statement.{statement}
 use Rattle.api.proofs.walls.cichowiej_set_boundary_cpml.Tie as tie
 
 returns : tie.Need-returns
-returns c = unnamed _ _ (c .before .before .before .before .before .before .before .before .before .before .before .before .before .args .active .now) (unless (c .before .before .before .before .before .is-record .ensures) (c .before .before .before .before .if1 .taken)) (c .before .before .answer-number .ensures)
-
-get-record-requires : tie.Need-get-record-requires
-get-record-requires c κs = met (c .before .before .is-record .ensures) (c .before .if1 .left)
-
-keep-requires : tie.Need-keep-requires
-keep-requires c κs = block-long _ (met (c .before .before .before .before .before .before .before .before .before .before .before .before .before .before .before .before .before .before .before .before .is-record .ensures) (c .before .before .before .before .before .before .before .before .before .before .before .before .before .before .before .before .before .before .before .if1 .left))
-
-returns-2 : tie.Need-returns-2
-returns-2 c = well _ _ _ (met (c .before .before .before .before .before .before .before .before .before .before .before .before .before .before .before .before .before .before .before .before .before .before .before .is-record .ensures) (c .before .before .before .before .before .before .before .before .before .before .before .before .before .before .before .before .before .before .before .before .before .before .if1 .left)) (c .before .before .before .before .before .before .before .before .before .before .before .before .before .before .before .before .before .before .before .before .get-record .ensures) (naming-of (c .before .before .before .before .before .before .before .before .before .before .before .before .before .before .before .before .before .before .before .before .before .before .before .before .before .before .before .before .before .before .before .args .active .now) (c .before .before .before .before .before .before .before .before .before .before .before .before .before .before .before .before .set-boundary-cpml .ensures) (c .before .before .before .before .before .before .before .axis-bits .ensures) (c .before .before .before .before .before .before .answer-number2 .ensures)) (c .before .before .keep .ensures)
+returns c = let e = c .before .before .before .before .before .before .before .before .before .before .set-boundary-cpml .ensures in (e, «cichowiej_set_boundary_cpml» _ _ _ _ _ _ _ _ _ _ _ _ (all-held _ (λ i. c .before .before .before .before .before .before .before .before .before .before .before .before .before .before .before .before .before .before .before .before .shared-slice-known .given i)) e)
 
 pub cichowiej-set-boundary-cpml-spec : {M : Type 1} → statement M
 cichowiej-set-boundary-cpml-spec =
     tie.close
     (tie.spec
     (λ c κs. search needs)
-    (λ c κs. search needs)
-    (λ c. search needs)
-    (λ c. search needs)
-    returns
-    get-record-requires
-    (λ c κs. search needs)
-    (λ c κs. search needs)
-    (λ c κs. search needs)
-    keep-requires
-    (λ c. search needs)
-    (λ c. search needs)
-    (λ c. search needs)
-    (λ c. search needs)
-    (λ c. search needs)
-    returns-2)
+    (λ c. c .before .before .before .before .before .before .before .before .before .before .set-boundary-cpml .kept .0)
+    (λ c. c .before .before .before .before .before .before .before .before .before .before .set-boundary-cpml .kept .1 .1 .1 .1 .1 .1 .0)
+    (λ c. c .before .before .before .before .before .before .before .before .before .before .set-boundary-cpml .kept .1 .1 .1 .1 .1 .1 .1 .0)
+    (λ c. c .before .before .before .before .before .before .before .before .before .before .set-boundary-cpml .kept .1 .1 .1 .1 .1 .1 .1 .1 .0)
+    (λ c. c .before .before .before .before .before .before .before .before .before .before .set-boundary-cpml .kept .1 .1 .1 .1 .1 .1 .1 .1 .1 .0)
+    returns)

@@ -1,0 +1,98 @@
+-- What a C function comes to: the call on the record that the caller's block holds. Definitions only.
+use Prim.Native.Nat.{ℕ, _+_}
+use mathlib.Core.Bool.{Bool, false, cond}
+use mathlib.Core.List.{List}
+use lib.Dec.{eqb}
+use lib.ListN.{length, getD, set}
+use Rattle.codec.specs.Bytes.{nums}
+use Rattle.root.specs.declared.Spacings.{Spacings}
+use Rattle.dispersion.specs.declared.DispersiveMaterial.{DispersiveMaterial}
+use Rattle.grid.specs.declared.Record.{Record}
+use Rattle.grid.specs.Fault.{badStudy, first, faultOf}
+use Rattle.grid.specs.Stores.{Stores, Outcome, outcome, settle, orElse, badStore, lengthsOf, faultWith}
+use Rattle.opening.specs.Opening.{openRecord, openStores}
+use Rattle.opening.specs.Layer.{Layer}
+use Rattle.cpml.specs.Absorber.{Absorbed}
+use Rattle.materials.specs.Materials.{addFault, added}
+use Rattle.heads.specs.Numbers.{mlWidths, mlFine, mlOf}
+use Rattle.block.specs.Block.{blockLength, blockFine, blockRecord, blockOf}
+use Rattle.format.specs.Rewind.{readRecord, readStores, rewindFault}
+
+-- the refusal, the block, and the rest: the stores that were lent, further answers
+pub record Sent (A : Type 0) : Type 0 where
+  pub refusal : ℕ
+  pub block : List ℕ
+  pub rest : A
+
+abbrev pub sent : {A : Type 0} → ℕ → List ℕ → A → Sent A
+sent n b s = record { refusal = n; block = b; rest = s }
+
+-- the block is written where the call was accepted
+unfoldable pub blockAfter : (refusal : ℕ) → Record → List ℕ → List ℕ
+blockAfter n r b = cond (eqb n 0) (blockOf r) b
+
+abbrev pub passed : {A : Type 0} → Outcome A → List ℕ → Sent A
+passed o b = sent (o .refusal) (blockAfter (o .refusal) (o .study) b) (o .rest)
+
+-- a block that is no record is refused as BadStudy, and the rest is then `kept`
+unfoldable pub onBlock : {A : Type 0} → (Record → Outcome A) → List ℕ → (kept : A) → Sent A
+onBlock f b kept = cond (blockFine b) (passed (f (blockRecord b)) b) (sent badStudy b kept)
+
+-- a call that is lent the block to read alone: the refusal, and the rest
+pub record Told (A : Type 0) : Type 0 where
+  pub refusal : ℕ
+  pub rest : A
+
+abbrev pub told : {A : Type 0} → ℕ → A → Told A
+told n s = record { refusal = n; rest = s }
+
+unfoldable pub readBlock : {A : Type 0} → (Record → Outcome A) → List ℕ → (kept : A) → Told A
+readBlock f b kept = cond (blockFine b) (told (f (blockRecord b) .refusal) (f (blockRecord b) .rest)) (told badStudy kept)
+
+-- ---- opening and rewind judge no block: what the call itself finds, then 4 for a block of another length
+unfoldable pub lentBlock : (fault block : ℕ) → ℕ
+lentBlock f n = orElse f (first (eqb n blockLength) badStore 0)
+
+unfoldable pub openOnBlock : (nx ny nz slots : ℕ) → Spacings → List ℕ → Stores → Sent Stores
+openOnBlock nx ny nz slots spacings b s =
+    let r = openRecord nx ny nz slots spacings in
+    passed (settle (lentBlock (faultWith r (lengthsOf s)) (length b)) r s r (openStores r)) b
+
+unfoldable pub rewindOnBlock : (save : List ℕ) → List ℕ → Stores → Sent Stores
+rewindOnBlock save b s =
+    passed (settle (lentBlock (rewindFault save (lengthsOf s)) (length b)) (readRecord save) s (readRecord save) (readStores save)) b
+
+-- ---- further answers: one goes into the first place of the room lent for it, if that has one
+abbrev pub answered : {A : Type 0} → A → List A → List A
+answered v room = set room 0 v
+
+abbrev pub answering : {A : Type 0} → Outcome A → List A → Outcome (List A)
+answering o room = outcome (o .refusal) (o .study) (answered (o .rest) room)
+
+-- ---- a material as 125 bytes: 4 for another length, 3 for bytes that are no material
+unfoldable pub materialFault : List ℕ → ℕ
+materialFault m = first (eqb (length m) 125) badStore (first (mlFine (nums mlWidths m)) badStudy 0)
+
+unfoldable pub materialOf : List ℕ → DispersiveMaterial
+materialOf m = mlOf (nums mlWidths m)
+
+-- the record's own faults, then the bytes', then what adding finds
+unfoldable pub addBytesFault : (material : List ℕ) → Record → ℕ
+addBytesFault m r = orElse (faultOf r) (orElse (materialFault m) (addFault r (materialOf m .«pole_count»)))
+
+unfoldable pub addBytesCall : (material : List ℕ) → Record → Outcome ℕ
+addBytesCall m r = settle (addBytesFault m r) r 0 (added r (materialOf m)) (r .«material_count»)
+
+-- ---- which axes the layer is active on, as one number
+abbrev pub axisBits : List Bool → ℕ
+axisBits a = cond (getD a 0 false) 1 0 + cond (getD a 1 false) 2 0 + cond (getD a 2 false) 4 0
+
+pub record Named : Type 0 where
+  pub axes : List ℕ
+  pub stores : Layer
+
+abbrev pub named : List ℕ → Layer → Named
+named a s = record { axes = a; stores = s }
+
+abbrev pub naming : Outcome Absorbed → List ℕ → Outcome Named
+naming o room = outcome (o .refusal) (o .study) (named (answered (axisBits (o .rest .axes)) room) (o .rest .stores))

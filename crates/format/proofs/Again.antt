@@ -1,0 +1,248 @@
+-- Bytes without fault: the study that they say has none either, and writes them again. Assumes nothing.
+use Prim.Native.Nat.{ℕ, _+_, _*_, _^_, _≤_, _<_}
+use native.Mathlib.Omega.{arith}
+use mathlib.Core.Path.{_≡_, sym, ap, _∙_, subst}
+use mathlib.Core.Bool.{Bool, true, false, cond}
+use mathlib.Core.List.{List}
+use borrow.Author.Tests.{eqb-true, lt-ltb}
+use lib.Dec.{T, ltb, eqb}
+use lib.ListN.{length, getD, take, drop, length-drop}
+use lib.Seq.{length-take-le}
+use lib.Ieee.{binary64, ofBits}
+use Rattle.codec.specs.Lists.{part}
+use Rattle.codec.specs.Bytes.{bytesFit, enc, nums, total, floatsBytes, floatsOf, floatsFit, allFine, idsBytes, idsOf}
+use Rattle.codec.proofs.Lists.{part-take, every-drop}
+use Rattle.codec.proofs.Row.{enc-nums, nums-fit, fit-at}
+use Rattle.codec.proofs.Elements.{length-elementsOf}
+use Rattle.codec.proofs.Back.{floats-bytes, floats-fit, ids-bytes, ids-fit}
+use Rattle.dispersion.specs.declared.DispersiveMaterial.{DispersiveMaterial}
+use Rattle.dispersion.specs.Material.{vacuumMaterial}
+use Rattle.cells.proofs.Blocks.{joined-same, length-row, block-end}
+use Rattle.cells.proofs.Sweeps.{parts-whole}
+use Rattle.cells.proofs.Written.{getD-row}
+use Rattle.grid.specs.declared.Record.{Record}
+use Rattle.grid.specs.declared.stores.Lengths.{Lengths}
+use Rattle.grid.specs.Canon.{canon}
+use Rattle.grid.specs.Fault.{beyond, allBelow, faultOf}
+use Rattle.grid.specs.Stores.{storeLengths, lengthsOf}
+use Rattle.grid.proofs.Tests.{and-left, and-right, or-none}
+use Rattle.grid.proofs.Judging.{sound}
+use Rattle.heads.specs.Numbers.{ghWidths, ghFine, ghOf, mlWidths, mlFine, mlOf}
+use Rattle.heads.proofs.Puts.{length-nums}
+use Rattle.heads.proofs.Whole.{gh-total, ml-total}
+use Rattle.block.specs.Held.{MaterialHeld, Held}
+use Rattle.block.proofs.Head.{all-at}
+use Rattle.block.proofs.Again.{material-again, head-again}
+use Rattle.block.proofs.Decoded.{read-held, vacuum-held, head-held}
+use Rattle.format.specs.Records.{frames, Expected, expected, payloadFrom}
+use Rattle.format.specs.Save.{eleven, headBytes, materialBytes, listBytes, pieces, saveBytes}
+use Rattle.format.specs.Rewind.{headOf, countOf, bare, headGood, entryOf, materialsOf, listGood, table, tableOf, bytesFault, payloadOf, readRecord, readStores, rewindFault}
+use Rattle.format.specs.Savable.{StoresHeld}
+use Rattle.format.proofs.Walk.{cutUp, Passed, walk-back, walk-passed}
+use Rattle.format.proofs.Bare.{bare-lengths}
+use Rattle.format.proofs.Back.{record-again}
+
+eleven-same : (a b c d e f g h i j k a' b' c' d' e' f' g' h' i' j' k' : List ℕ) →
+    a ≡ a' → b ≡ b' → c ≡ c' → d ≡ d' → e ≡ e' → f ≡ f' → g ≡ g' → h ≡ h' → i ≡ i' → j ≡ j' → k ≡ k' →
+    eleven a b c d e f g h i j k ≡ eleven a' b' c' d' e' f' g' h' i' j' k'
+eleven-same a b c d e f g h i j k a' b' c' d' e' f' g' h' i' j' k' p q r s t u v w x y z = rw (p, q, r, s, t, u, v, w, x, y, z)
+
+module _ (b : List ℕ) (bytes : T (bytesFit b)) (ok : bytesFault b ≡ 0) where
+  abbrev g : List ℕ
+  g = headOf b
+
+  abbrev es : List Expected
+  es = tableOf g
+
+  abbrev n : Lengths
+  n = storeLengths (bare g)
+
+  abbrev none : Expected
+  none = expected 0 0 (λ _. true)
+
+  abbrev r : Record
+  r = readRecord b
+
+  abbrev count : ℕ
+  count = countOf g
+
+  passed : (i : ℕ) → i < 11 → Passed (getD es i none) (payloadOf b i)
+  unfolding bytesFault tableOf table
+  passed i l = walk-passed es b i none bytes ok l
+
+  -- ---- GH
+  head-passed : Passed (expected 0 73 (λ p. headGood (nums ghWidths p))) (drop 6 b)
+  unfolding tableOf table payloadFrom
+  head-passed = let q = passed 0 (omega arith) in record { room = q .room; good = q .good; bytes = q .bytes }
+
+  head-fine : ghFine g ≡ true
+  unfolding headGood
+  head-fine = and-left (ghFine g) (eqb (faultOf (bare g)) 0) (head-passed .good)
+
+  head-fit : total ghWidths ≤ length (drop 6 b)
+  head-fit = omega (arith, gh-total, head-passed .room)
+
+  head-bytes : headBytes r ≡ take 73 (drop 6 b)
+  unfolding readRecord
+  head-bytes =
+      ap (enc ghWidths) (head-again g (materialsOf count (payloadOf b 1)) (length-nums ghWidths (drop 6 b)) (nums-fit ghWidths (drop 6 b) head-fit (head-passed .bytes)) head-fine)
+      ∙ enc-nums ghWidths (drop 6 b) head-fit (head-passed .bytes)
+      ∙ ap (λ (k : ℕ). take k (drop 6 b)) gh-total
+
+  -- ---- ML
+  abbrev p : List ℕ
+  p = payloadOf b 1
+
+  list-passed : Passed (expected 0 (125 * count) (listGood g)) p
+  unfolding tableOf table
+  list-passed = let q = passed 1 (omega arith) in record { room = q .room; good = q .good; bytes = q .bytes }
+
+  abbrev each : Bool
+  each = allBelow (λ i. mlFine (entryOf p i)) count
+
+  -- the record that is read has no fault
+  pub read-none : faultOf (readRecord b) ≡ 0
+  unfolding listGood readRecord
+  read-none = eqb-true (faultOf r) 0 (and-right each (eqb (faultOf r) 0) (list-passed .good))
+
+  entry-fine : (i : ℕ) → i < count → mlFine (entryOf p i) ≡ true
+  unfolding listGood
+  entry-fine i l = all-at (λ k. mlFine (entryOf p k)) count i (and-left each (eqb (faultOf (ghOf g (materialsOf count p))) 0) (list-passed .good)) l
+
+  few : count ≤ 16
+  unfolding readRecord ghOf
+  few = sound r read-none .materials
+
+  material-is : (i : ℕ) → i < count → getD (materialsOf count p) i beyond ≡ mlOf (entryOf p i)
+  unfolding materialsOf
+  material-is i l =
+      getD-row 16 (λ k. cond (ltb k count) (mlOf (entryOf p k)) vacuumMaterial) i beyond (omega (arith, l, few))
+      ∙ ap (λ (t : Bool). cond t (mlOf (entryOf p i)) vacuumMaterial) (lt-ltb i count l)
+
+  abbrev whole : List ℕ
+  whole = take (count * 125) p
+
+  entry-bytes : (i : ℕ) → i < count → materialBytes (getD (materialsOf count p) i beyond) ≡ part whole (i * 125) 125
+  unfolding part
+  entry-bytes i l =
+      let rest : List ℕ = drop (125 * i) p in
+      let end : i * 125 + 125 ≤ count * 125 = block-end i count 125 l in
+      let room : total mlWidths ≤ length rest = omega (arith, ml-total, length-drop (125 * i) p, list-passed .room, end) in
+      let fits : T (bytesFit rest) = every-drop _ (125 * i) p (list-passed .bytes) in
+      let place : 125 * i ≡ i * 125 = omega arith in
+      ap (λ (m : DispersiveMaterial). materialBytes m) (material-is i l)
+      ∙ ap (enc mlWidths) (material-again (entryOf p i) (length-nums mlWidths rest) (nums-fit mlWidths rest room fits) (entry-fine i l))
+      ∙ enc-nums mlWidths rest room fits
+      ∙ ap (λ (k : ℕ). take k rest) ml-total
+      ∙ ap (λ (k : ℕ). take 125 (drop k p)) place
+      ∙ sym (part-take (count * 125) p (i * 125) 125 end)
+
+  list-bytes : listBytes r ≡ take (125 * count) p
+  unfolding listBytes readRecord ghOf
+  list-bytes =
+      let place : count * 125 ≡ 125 * count = omega arith in
+      joined-same count _ (λ i. part whole (i * 125) 125) entry-bytes
+      ∙ parts-whole count 125 whole (length-take-le (count * 125) p (omega (arith, list-passed .room, place)))
+      ∙ ap (λ (k : ℕ). take k p) place
+
+  -- ---- the stores
+  again : (m k : ℕ) (l : List ℕ) → Passed (expected m (8 * k) (allFine k)) l → floatsBytes (floatsOf k l) ≡ take (8 * k) l
+  again m k l q = floats-bytes k l (q .room) (q .bytes) (q .good)
+
+  ids-again : (m k : ℕ) (l : List ℕ) → Passed (expected m (4 * k) (λ _. true)) l → idsBytes (idsOf k l) ≡ take (4 * k) l
+  ids-again m k l q = ids-bytes k l (q .room) (q .bytes)
+
+  -- the bytes cut up are the records of the study that they say
+  as-read : pieces r (readStores b) ≡ cutUp es b
+  unfolding pieces readStores cutUp tableOf table payloadFrom
+  as-read =
+      eleven-same _ _ _ _ _ _ _ _ _ _ _ _ _ _ _ _ _ _ _ _ _ _ head-bytes list-bytes
+      (ids-again _ (n .ids) _ (passed 2 (omega arith)))
+      (again _ (n .media) _ (passed 3 (omega arith)))
+      (again _ (n .electric) _ (passed 4 (omega arith)))
+      (again _ (n .magnetic) _ (passed 5 (omega arith)))
+      (again _ (n .«psi_e») _ (passed 6 (omega arith)))
+      (again _ (n .«psi_h») _ (passed 7 (omega arith)))
+      (again _ (n .tables) _ (passed 8 (omega arith)))
+      (again _ (n .poles) _ (passed 9 (omega arith)))
+      (again _ (n .aux) _ (passed 10 (omega arith)))
+
+  pub bytes-again : saveBytes (readRecord b) (readStores b) ≡ b
+  unfolding saveBytes bytesFault
+  bytes-again = ap frames as-read ∙ walk-back es b bytes ok
+
+  -- ---- what is read is a study: stores of its lengths, and all that code holds
+  pub read-lengths : lengthsOf (readStores b) ≡ storeLengths (readRecord b)
+  unfolding readStores readRecord
+  read-lengths =
+      long (n .electric) (n .magnetic) (n .media) (n .«psi_e») (n .«psi_h») (n .tables) (n .poles) (n .aux) (n .ids)
+      ∙ bare-lengths g (materialsOf count p)
+    where
+      floats-long : (k : ℕ) (l : List ℕ) → length (floatsOf k l) ≡ k
+      floats-long = length-elementsOf 8 (ofBits binary64)
+
+      long : (e h m pe ph t q a i : ℕ) →
+          lengthsOf (record {
+            electric = floatsOf e (payloadOf b 4);
+            magnetic = floatsOf h (payloadOf b 5);
+            media = floatsOf m (payloadOf b 3);
+            psiE = floatsOf pe (payloadOf b 6);
+            psiH = floatsOf ph (payloadOf b 7);
+            tables = floatsOf t (payloadOf b 8);
+            poles = floatsOf q (payloadOf b 9);
+            aux = floatsOf a (payloadOf b 10);
+            ids = idsOf i (payloadOf b 2);
+          }) ≡ record { electric = e; magnetic = h; media = m; «psi_e» = pe; «psi_h» = ph; tables = t; poles = q; aux = a; ids = i }
+      long e h m pe ph t q a i =
+          rw (
+            floats-long e (payloadOf b 4),
+            floats-long h (payloadOf b 5),
+            floats-long m (payloadOf b 3),
+            floats-long pe (payloadOf b 6),
+            floats-long ph (payloadOf b 7),
+            floats-long t (payloadOf b 8),
+            floats-long q (payloadOf b 9),
+            floats-long a (payloadOf b 10),
+            length-elementsOf 4 (λ k. k) i (payloadOf b 2),
+          )
+
+  held : (m k : ℕ) (l : List ℕ) → Passed (expected m (8 * k) (allFine k)) l → T (floatsFit (floatsOf k l))
+  held m k l q = floats-fit k l (q .room) (q .bytes)
+
+  pub stores-held : StoresHeld (readStores b)
+  unfolding readStores tableOf table
+  stores-held = record {
+    electric = held _ (n .electric) _ (passed 4 (omega arith));
+    magnetic = held _ (n .magnetic) _ (passed 5 (omega arith));
+    media = held _ (n .media) _ (passed 3 (omega arith));
+    psiE = held _ (n .«psi_e») _ (passed 6 (omega arith));
+    psiH = held _ (n .«psi_h») _ (passed 7 (omega arith));
+    tables = held _ (n .tables) _ (passed 8 (omega arith));
+    poles = held _ (n .poles) _ (passed 9 (omega arith));
+    aux = held _ (n .aux) _ (passed 10 (omega arith));
+    ids = let q = passed 2 (omega arith) in ids-fit (n .ids) (payloadOf b 2) (q .room) (q .bytes);
+  }
+
+  steps-small : getD g 25 0 ≤ 4294967295
+  steps-small =
+      let small : getD g 25 0 < 256 ^ 4 = fit-at ghWidths g 25 (nums-fit ghWidths (drop 6 b) head-fit (head-passed .bytes)) (omega arith) in
+      omega arith
+
+  pub record-held : Held (readRecord b)
+  unfolding readRecord materialsOf
+  record-held =
+      head-held g (materialsOf count p) steps-small (length-row 16 _)
+      (λ i l. subst MaterialHeld (sym (getD-row 16 (λ k. cond (ltb k count) (mlOf (entryOf p k)) vacuumMaterial) i beyond l)) (go i (ltb i count)))
+    where
+      go : (i : ℕ) (t : Bool) → MaterialHeld (cond t (mlOf (entryOf p i)) vacuumMaterial)
+      go i true = read-held (entryOf p i)
+      go i false = vacuum-held
+
+  -- and nothing in its record means nothing
+  pub read-canon : canon (readRecord b) ≡ readRecord b
+  read-canon = sym (record-again r (readStores b) read-none record-held read-lengths stores-held) ∙ ap readRecord bytes-again
+
+-- ---- (b) bytes that a rewind accepts are what their study writes
+pub save-again : (b : List ℕ) (l : Lengths) → T (bytesFit b) → rewindFault b l ≡ 0 → saveBytes (readRecord b) (readStores b) ≡ b
+unfolding rewindFault
+save-again b l bytes ok = bytes-again b bytes (or-none (bytesFault b) _ ok .0)

@@ -1,0 +1,9 @@
+-- The laws of the format, which `saves` and `study` cite.
+pub mod Walk
+pub mod Bare
+pub mod Written
+pub mod Back
+pub mod Again
+pub mod Same
+pub mod Examples
+pub mod Round

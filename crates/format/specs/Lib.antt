@@ -1,0 +1,5 @@
+-- What the contracts and laws of saves cite.
+pub mod Records
+pub mod Save
+pub mod Rewind
+pub mod Savable

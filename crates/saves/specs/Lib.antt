@@ -1,0 +1,3 @@
+-- What the contracts of the inner functions of saves cite.
+pub mod Room
+pub mod Places

@@ -1,0 +1,75 @@
+-- Worlds and their studies: what a block says, before a call and after it. Assumes nothing.
+use Prim.Native.Nat.{ℕ, zero, suc, _<_}
+use native.Mathlib.Omega.{arith}
+use mathlib.Core.Path.{_≡_, refl, ap, _∙_}
+use mathlib.Core.Bool.{Bool, true, false, cond}
+use mathlib.Core.Option.{Option, none, some}
+use mathlib.Core.List.{List, [], _∷_}
+use lib.Dec.{T, ltb}
+use lib.ListN.{getD}
+use lib.Ieee.Fits.{and-l, and-r}
+use borrow.Author.Tests.{ltb-true, ne-eqb}
+use Rattle.codec.specs.Lists.{every}
+use Rattle.codec.specs.Bytes.{bytesFit, enc}
+use Rattle.codec.proofs.Lists.{every-append}
+use Rattle.codec.proofs.Row.{enc-fit}
+use Rattle.cells.specs.Cells.{joined}
+use Rattle.grid.specs.declared.Record.{Record}
+use Rattle.grid.specs.Canon.{canon}
+use Rattle.grid.specs.Fault.{faultOf}
+use Rattle.grid.proofs.Canonical.{canon-twice}
+use Rattle.heads.specs.Numbers.{ghWidths, ghNums, mlWidths}
+use Rattle.block.specs.Held.{Held}
+use Rattle.block.specs.Block.{blockFine, blockRecord, entryNums, entryBytes, blockOf}
+use Rattle.block.proofs.Turns.{block-long}
+use Rattle.block.proofs.Back.{fine-block, record-block}
+use Rattle.block.proofs.Decoded.{record-held}
+use Rattle.calls.specs.Blocks.{blockAfter}
+use Rattle.study.specs.World.{World, Study, ifFine, studyOf, Holding}
+
+pub byte-at : (l : List ℕ) → T (bytesFit l) → (i : ℕ) → getD l i 0 < 256
+unfolding every
+byte-at [] h i = omega arith
+byte-at (x ∷ l) h zero = ltb-true x 256 (yes (ltb x 256) (and-l (ltb x 256) (every (λ b. ltb b 256) l) h))
+  where
+    yes : (t : Bool) → T t → t ≡ true
+    yes true h = refl
+    yes false h = absurd h
+byte-at (x ∷ l) h (suc i) = byte-at l (and-r (ltb x 256) (every (λ b. ltb b 256) l) h) i
+
+-- what a block says, memory can hold
+pub under : (w : World) → blockFine (w .block) ≡ true → Holding (blockRecord (w .block)) (w .kept)
+under w fine = record { held = record-held (w .block) (block-long (w .block) fine) (byte-at (w .block) (w .bytes)); fits = w .fits }
+
+-- the study of a block that is a record's, and of one that is none
+pub study-fine : (w : World) → blockFine (w .block) ≡ true → studyOf w ≡ some (record { rec = canon (blockRecord (w .block)); kept = w .kept })
+study-fine w e = ap (λ (t : Bool). ifFine t (record { rec = canon (blockRecord (w .block)); kept = w .kept })) e
+
+pub study-none : (w : World) → blockFine (w .block) ≡ false → studyOf w ≡ none
+study-none w e = ap (λ (t : Bool). ifFine t (record { rec = canon (blockRecord (w .block)); kept = w .kept })) e
+
+-- a block in which a record without fault was put says that record, without what means nothing
+pub study-put : (v : World) (r : Record) → faultOf r ≡ 0 → Held r → v .block ≡ blockOf r → studyOf v ≡ some (record { rec = canon r; kept = v .kept })
+study-put v r ok h e =
+    study-fine v (ap blockFine e ∙ fine-block r ok h)
+    ∙ ap {B = Option Study} (λ (q : Record). some (record { rec = q; kept = v .kept })) (ap canon (ap blockRecord e ∙ record-block r ok h) ∙ canon-twice r)
+
+pub after-accepted : (r : Record) (b : List ℕ) → blockAfter 0 r b ≡ blockOf r
+unfolding blockAfter
+after-accepted r b = refl
+
+pub after-refused : (n : ℕ) (r : Record) (b : List ℕ) → blockAfter (suc n) r b ≡ b
+unfolding blockAfter
+after-refused n r b = ap (λ (t : Bool). cond t (blockOf r) b) (ne-eqb (suc n) 0 (λ k. omega (arith, k)))
+
+-- a block's bytes are bytes
+joined-fit : (n : ℕ) (f : ℕ → List ℕ) → ((i : ℕ) → T (bytesFit (f i))) → T (bytesFit (joined n f))
+unfolding joined every
+joined-fit zero f h = tt
+joined-fit (suc n) f h = every-append (λ b. ltb b 256) (joined n f) (f n) (joined-fit n f h) (h n)
+
+pub block-fit : (r : Record) → T (bytesFit (blockOf r))
+unfolding blockOf entryBytes
+block-fit r =
+    every-append (λ b. ltb b 256) (enc ghWidths (ghNums r)) (joined 16 (entryBytes r)) (enc-fit ghWidths (ghNums r))
+    (joined-fit 16 (entryBytes r) (λ i. enc-fit mlWidths (entryNums (ltb i (r .«material_count»)) _)))

@@ -1,0 +1,20 @@
+-- Laws of the calls, and demand 3.
+pub mod Standing
+pub mod Holding
+pub mod Kept
+pub mod Stepped
+pub mod Corrected
+pub mod Lengths
+pub mod Fits
+pub mod Remains
+pub mod Faultless
+pub mod Regular
+pub mod Saved
+pub mod Blocks
+pub mod Made
+pub mod Returned
+pub mod Entries
+pub mod Runs
+pub mod Proved
+pub mod Worked
+pub mod Shams

@@ -1,0 +1,483 @@
+-- Every call is a `settle`: refused it leaves all, accepted it puts its next record and its rest; and on the canon of a record it is judged alike and gives
+-- the canon of what it gives on the record. Assumes nothing.
+use Prim.Native.Nat.{ℕ, _+_, _<_}
+use native.Mathlib.Omega.{arith}
+use mathlib.Core.Path.{_≡_, refl, sym, ap, _∙_}
+use mathlib.Core.Bool.{Bool, true, false, _&&_}
+use mathlib.Core.List.{List, [], _∷_}
+use lib.Dec.{ltb, leb, eqb}
+use lib.ListN.{length}
+use lib.Ieee.{Float}
+use borrow.Author.Tests.{ltb-true}
+use Rattle.root.specs.Constants.{eps0, mu0, c0}
+use Rattle.root.specs.Rounded.{zeroF}
+use Rattle.dispersion.specs.declared.DispersiveMaterial.{DispersiveMaterial}
+use Rattle.cells.specs.declared.IndexBox.{IndexBox}
+use Rattle.grid.specs.declared.Region.{Region}
+use Rattle.grid.specs.declared.Record.{Record}
+use Rattle.grid.specs.declared.stores.Lengths.{Lengths}
+use Rattle.grid.specs.Edited.{withWalls, withBuilt, withRegion}
+use Rattle.grid.specs.Fault.{first, cornersFit, layerFits as layerFitted, faultOf}
+use Rattle.grid.specs.Canon.{canonMaterial, canonRegion, canon}
+use Rattle.grid.specs.Stores.{Stores, Outcome, outcome, settle, zeros, orElse, storeLengths, sameLengths, lengthsOf, faultLent, faultWith}
+use Rattle.grid.proofs.Canonical.{canon-fault}
+use Rattle.grid.proofs.Tests.{or-none, first-none}
+use Rattle.grid.proofs.Settled.{lent-none}
+use Rattle.materials.proofs.Building.{add-none}
+use Rattle.block.specs.Held.{held, Held}
+use Rattle.codec.specs.Lists.{every}
+use lib.Ieee.Fits.{and-l, and-r}
+use Rattle.opening.specs.Layer.{layer, layerLong, layerFits, clearedLayer}
+use Rattle.materials.specs.Materials.{three, mediaFault, mediaSet, setMaterialCall, Placed, assignFault, idsSet, assigned, assignBoxCall, halfspace, builtOf, polesFault, buildCall, tooManyPoles, full, addFault, added, noSuchMaterial, placed}
+use Rattle.heads.specs.Numbers.{mlWidths}
+use Rattle.block.proofs.Decoded.{read-held}
+use Rattle.codec.specs.Bytes.{nums}
+use Rattle.format.specs.Save.{saveLength as bytesLong, lengthCall}
+use Rattle.calls.specs.Blocks.{materialFault, materialOf, addBytesFault, addBytesCall}
+use Rattle.boundary.specs.declared.LossyAbsorber.{LossyAbsorber}
+use Rattle.boundary.specs.Lossy.{lossySigma, noWall, lossyMedia}
+use Rattle.boundary.specs.Walls.{three as flags, setPeriodicCall, plainFault, setPlainCall, lossyFault, badOrder, setLossyCall}
+use Rattle.cpml.specs.Absorber.{activeAxes, periodicLeft, layerTables, cpmlFault, absorbed, noAxis, setCpmlCall}
+use Rattle.tfsf.specs.Wave.{slabZ, injectorZ, badRegion, regionFault, restarted, regionCall}
+use Rattle.fields.specs.Fields.{reset, resetLong, cleared, resetCall, energyOf, energyFault, energyCall, planeOf, noSuchPlane, planeFault, planeCall}
+use Rattle.step.specs.Step.{staleMaterial, spentClock, lastStep, freshIds, stepFault, stepped, ticked, stepCall}
+use Rattle.step.proofs.Judged.{ready}
+use Rattle.run.specs.Run.{ran, runCall}
+use Rattle.study.specs.World.{Holding, Floats, SaidAct, Act, setMaterial, assignBox, assignHalfspace, addMaterial, buildDispersion, setPeriodic, wallsPeriodic, wallsConductor, wallsLossy, wallsCpml, slab, injector, boxRegion, step, run, resetFields, totalEnergy, planeReading, saveLength}
+use Rattle.study.specs.Calls.{Form, form, storing, putAux, putPlaced, putLayer, layerOf, lossedOf, placedOf, resetOf, boxOf, weightOf}
+use Rattle.study.proofs.Kept.{material-kept, built-kept, added-kept, lent-kept}
+use Rattle.study.proofs.Fits.{zeros-fit, layer-fit, set-fit, lossy-fit, stepped-fit}
+use Rattle.study.proofs.Remains.{held-walls, held-built, held-region, held-tick, held-added, fit-media, fit-poles, fit-aux, fit-layer, fit-cleared, fit-reset, fit-assigned, ran-holds}
+use Rattle.study.proofs.Faultless.{parts, lent-fine, walls-whole, region-whole, tick-whole, ran-whole, built-whole, added-whole}
+use Rattle.study.proofs.Stepped.{Known, stepped-kept, ticked-kept}
+
+pub record Regular (f : Form) (weight : ℕ) (said : Type 0) : Type 0 where
+  pub fault : Record → Stores → ℕ
+  pub next : Record → Stores → Record
+  pub rest : Record → Stores → f .Rest
+  pub is : (r : Record) (s : Stores) → f .call r s ≡ settle (fault r s) r (f .idle s) (next r s) (rest r s)
+  -- refused, every store is as it was
+  pub idles : (s : Stores) → f .stored (f .idle s) s ≡ s
+  -- and the answer is nought
+  pub silent : (s : Stores) → f .answer (f .idle s) ≡ f .nought
+  -- on the canon
+  pub fault-canon : (r : Record) (s : Stores) → fault (canon r) s ≡ fault r s
+  pub next-canon : (r : Record) (s : Stores) → fault r s ≡ 0 → next (canon r) s ≡ canon (next r s)
+  pub rest-canon : (r : Record) (s : Stores) → fault r s ≡ 0 → rest (canon r) s ≡ rest r s
+  -- the steps counted
+  pub counts : (r : Record) (s : Stores) → next r s .clock .steps ≡ r .clock .steps + weight
+  -- no record that the first three refusals turn down
+  pub sound : (r : Record) (s : Stores) → Held r → fault r s ≡ 0 → faultOf (next r s) ≡ 0
+  -- what memory can hold becomes what memory can hold
+  pub holds : said → (r : Record) (s : Stores) → Holding r s → fault r s ≡ 0 → Holding (next r s) (f .stored (rest r s) s)
+
+nought : (n : ℕ) → n ≡ n + 0
+nought n = omega arith
+
+-- ---- materials
+set-asked : (nx ny nz : ℕ) (b : IndexBox) (eps mu sigma : Float) (old : List Float) → Floats (eps ∷ mu ∷ sigma ∷ []) → Floats old
+    → Floats (mediaSet nx ny nz b (three eps mu sigma) old)
+unfolding every
+set-asked nx ny nz b eps mu sigma old a t =
+    let p = and-l (held eps) _ a in
+    let q = and-r (held eps) _ a in
+    set-fit nx ny nz b eps mu sigma old p (and-l (held mu) _ q) (and-l (held sigma) _ (and-r (held mu) _ q)) t
+
+set-material : (b : IndexBox) (eps mu sigma : Float) → Regular (form (setMaterial b eps mu sigma)) 0 (SaidAct (setMaterial b eps mu sigma))
+unfolding setMaterialCall mediaFault storeLengths canon
+set-material b eps mu sigma = record {
+  fault = λ r s. mediaFault r (length (s .media));
+  next = λ r s. r;
+  rest = λ r s. mediaSet (r .nx) (r .ny) (r .nz) b (three eps mu sigma) (s .media);
+  is = λ r s. refl;
+  idles = λ s. refl;
+  silent = λ s. refl;
+  fault-canon = λ r s. lent-kept r (eqb (length (s .media)) (storeLengths r .media));
+  next-canon = λ r s h. refl;
+  rest-canon = λ r s h. refl;
+  counts = λ r s. nought _;
+  holds = λ said r s h e. record { held = h .held; fits = fit-media s (h .fits) _ (set-asked (r .nx) (r .ny) (r .nz) b eps mu sigma (s .media) said (h .fits .media)) };
+  sound = λ r s h e. lent-fine r (eqb (length (s .media)) (storeLengths r .media)) e;
+}
+
+counted : (r : Record) (m n id : ℕ) → assignFault r m n id ≡ 0 → id < r .«material_count»
+unfolding assignFault
+counted r m n id e = ltb-true id (r .«material_count») (first-none (ltb id (r .«material_count»)) 6 0 (or-none (faultLent r _) _ e .1) .0)
+
+few : (r : Record) (m n id : ℕ) → assignFault r m n id ≡ 0 → id < 16
+unfolding assignFault
+few r m n id e =
+    let low = counted r m n id e in
+    let sixteen = lent-none r _ (or-none (faultLent r (eqb m (storeLengths r .media) && eqb n (storeLengths r .ids))) _ e .0) .0 .materials in
+    omega (arith, low, sixteen)
+
+left-three : (p a : List Bool) → length (periodicLeft p a) ≡ 3
+unfolding periodicLeft
+left-three p a = refl
+
+placed-kept : (r : Record) (id : ℕ) (b : IndexBox) (p : Placed) → id < r .«material_count» → assigned (canon r) b id p ≡ assigned r b id p
+unfolding assigned canon canonMaterial
+placed-kept r id b p low =
+    ap (λ (m : DispersiveMaterial). placed (mediaSet (r .nx) (r .ny) (r .nz) b (three (m .«eps_inf») (m .«mu_r») (m .sigma)) (p .media)) (idsSet (r .nx) (r .ny) (r .nz) b id (p .ids)))
+    (material-kept r id low)
+
+-- the box may hang on the sizes
+assign : (id : ℕ) (b : Record → IndexBox) → ((r : Record) → b (canon r) ≡ b r) → Regular (storing (λ r s. assignBoxCall r id (b r) (placedOf s)) placedOf putPlaced) 0 (Unit {0})
+unfolding assignBoxCall assignFault storeLengths canon
+assign id b same = record {
+  fault = λ r s. assignFault r (length (s .media)) (length (s .ids)) id;
+  next = λ r s. r;
+  rest = λ r s. assigned r (b r) id (placedOf s);
+  is = λ r s. refl;
+  idles = λ s. refl;
+  silent = λ s. refl;
+  fault-canon = λ r s. ap (λ (n : ℕ). orElse n (first (ltb id (r .«material_count»)) noSuchMaterial 0))
+      (lent-kept r (eqb (length (s .media)) (storeLengths r .media) && eqb (length (s .ids)) (storeLengths r .ids)));
+  next-canon = λ r s h. refl;
+  rest-canon = λ r s h. ap (λ (x : IndexBox). assigned (canon r) x id (placedOf s)) (same r)
+      ∙ placed-kept r id (b r) (placedOf s) (counted r (length (s .media)) (length (s .ids)) id h);
+  counts = λ r s. nought _;
+  holds = λ said r s h e.
+      record { held = h .held; fits = fit-assigned r s (b r) id (h .held) (h .fits) (few r (length (s .media)) (length (s .ids)) id e) };
+  sound = λ r s h e. lent-fine r (eqb (length (s .media)) (storeLengths r .media) && eqb (length (s .ids)) (storeLengths r .ids)) (or-none (faultLent r (eqb (length (s .media)) (storeLengths r .media) && eqb (length (s .ids)) (storeLengths r .ids))) _ e .0);
+}
+
+half-same : (k0 : ℕ) (r : Record) → halfspace (canon r) k0 ≡ halfspace r k0
+unfolding canon
+half-same k0 r = refl
+
+-- the bytes are a material's, whatever they are: only bytes that are one are taken
+adding : (m : List ℕ) (r : Record) → addBytesFault m r ≡ 0 → addFault r (materialOf m .«pole_count») ≡ 0
+unfolding addBytesFault
+adding m r e = or-none (materialFault m) _ (or-none (faultOf r) _ e .1) .1
+
+add : (m : List ℕ) (n : ℕ) → Regular (form (addMaterial m n)) 0 (SaidAct (addMaterial m n))
+unfolding addBytesCall addBytesFault addFault added canon materialOf
+add m n = record {
+  fault = λ r s. addBytesFault m r;
+  next = λ r s. added r (materialOf m);
+  rest = λ r s. r .«material_count»;
+  is = λ r s. refl;
+  idles = λ s. refl;
+  silent = λ s. refl;
+  fault-canon = λ r s. ap (λ (k : ℕ). orElse k (orElse (materialFault m) (orElse k (first (leb (materialOf m .«pole_count») (r .«pole_slots»)) tooManyPoles (first (ltb (r .«material_count») 16) full 0))))) (canon-fault r);
+  next-canon = λ r s h. added-kept r (materialOf m);
+  rest-canon = λ r s h. refl;
+  counts = λ r s. nought _;
+  holds = λ said r s h e. record { held = held-added r (materialOf m) (h .held) (read-held (nums mlWidths m)) (add-none r (materialOf m .«pole_count») (adding m r e)); fits = h .fits };
+  sound = λ r s h e. added-whole r (materialOf m) (h .sixteen) (adding m r e);
+}
+
+build : Regular (form buildDispersion) 0 (SaidAct buildDispersion)
+unfolding buildCall polesFault storeLengths canon
+build = record {
+  fault = λ r s. polesFault r (length (s .poles));
+  next = λ r s. withBuilt r (builtOf r);
+  rest = λ r s. zeros (length (s .poles));
+  is = λ r s. refl;
+  idles = λ s. refl;
+  silent = λ s. refl;
+  fault-canon = λ r s. lent-kept r (eqb (length (s .poles)) (storeLengths r .poles));
+  next-canon = λ r s h. ap (λ (n : ℕ). withBuilt (canon r) n) (built-kept r);
+  rest-canon = λ r s h. refl;
+  counts = λ r s. nought _;
+  holds = λ said r s h e. record { held = held-built r (h .held) (builtOf r); fits = fit-poles s (h .fits) _ (zeros-fit (length (s .poles))) };
+  sound = λ r s h e. built-whole r (lent-fine r (eqb (length (s .poles)) (storeLengths r .poles)) e);
+}
+
+-- ---- walls
+no-layer : layerFitted (flags false) false ≡ true
+unfolding layerFitted
+no-layer = refl
+
+layer-any : (a : List Bool) → layerFitted a true ≡ true
+unfolding layerFitted
+layer-any a = refl
+
+periodic : (x y z : Bool) → Regular (form (setPeriodic x y z)) 0 (SaidAct (setPeriodic x y z))
+unfolding setPeriodicCall canon
+periodic x y z = record {
+  fault = λ r s. faultOf r;
+  next = λ r s. withWalls r (x ∷ y ∷ z ∷ []) (r .active) (r .«layer_on»);
+  rest = λ r s. tt;
+  is = λ r s. refl;
+  idles = λ s. refl;
+  silent = λ s. refl;
+  fault-canon = λ r s. canon-fault r;
+  next-canon = λ r s h. refl;
+  rest-canon = λ r s h. refl;
+  counts = λ r s. nought _;
+  holds = λ said r s h e. record { held = held-walls r (h .held) (x ∷ y ∷ z ∷ []) (r .active) (r .«layer_on») refl (h .held .walls .1); fits = h .fits };
+  sound = λ r s h e. walls-whole r (x ∷ y ∷ z ∷ []) (r .active) (r .«layer_on») e (parts r e .layer);
+}
+
+plain-walls : (on : Bool) → Regular (storing (λ r s. setPlainCall on r (layerOf s)) layerOf putLayer) 0 (Unit {0})
+unfolding setPlainCall plainFault storeLengths canon
+plain-walls on = record {
+  fault = λ r s. plainFault r (layerOf s);
+  next = λ r s. withWalls r (flags on) (flags false) false;
+  rest = λ r s. clearedLayer (r .nx) (r .ny) (r .nz) (layerOf s);
+  is = λ r s. refl;
+  idles = λ s. refl;
+  silent = λ s. refl;
+  fault-canon = λ r s. lent-kept r (layerFits (layerOf s) (storeLengths r));
+  next-canon = λ r s h. refl;
+  rest-canon = λ r s h. refl;
+  counts = λ r s. nought _;
+  holds = λ said r s h e. record { held = held-walls r (h .held) (flags on) (flags false) false refl refl; fits = fit-cleared s (h .fits) (r .nx) (r .ny) (r .nz) (layerOf s) };
+  sound = λ r s h e. walls-whole r (flags on) (flags false) false (lent-fine r (layerFits (layerOf s) (storeLengths r)) e) no-layer;
+}
+
+lossy : (a : LossyAbsorber) → Regular (form (wallsLossy a)) 0 (SaidAct (wallsLossy a))
+unfolding setLossyCall lossyFault lossyMedia noWall lossySigma storeLengths canon
+lossy a = record {
+  fault = λ r s. lossyFault r (a .order) (length (s .psiE)) (length (s .psiH)) (length (s .tables)) (length (s .media));
+  next = λ r s. withWalls r (r .periodic) (flags false) false;
+  rest = λ r s. record { walls = clearedLayer (r .nx) (r .ny) (r .nz) (layerOf s); media = lossyMedia r a (s .media) };
+  is = λ r s. refl;
+  idles = λ s. refl;
+  silent = λ s. refl;
+  fault-canon = λ r s. ap (λ (n : ℕ). orElse n (first (leb (a .order) 8) badOrder 0))
+      (lent-kept r (layerLong (length (s .psiE)) (length (s .psiH)) (length (s .tables)) (storeLengths r) && eqb (length (s .media)) (storeLengths r .media)));
+  next-canon = λ r s h. refl;
+  rest-canon = λ r s h. refl;
+  counts = λ r s. nought _;
+  holds = λ said r s h e. record { held = held-walls r (h .held) (r .periodic) (flags false) false (h .held .walls .0) refl; fits = fit-media _ (fit-cleared s (h .fits) (r .nx) (r .ny) (r .nz) (layerOf s)) _ (lossy-fit r a (s .media) (h .fits .media)) };
+  sound = λ r s h e.
+      let lent = layerLong (length (s .psiE)) (length (s .psiH)) (length (s .tables)) (storeLengths r) && eqb (length (s .media)) (storeLengths r .media) in
+      walls-whole r (r .periodic) (flags false) false (lent-fine r lent (or-none (faultLent r lent) _ e .0)) no-layer;
+}
+
+cpml : (x y z : Bool) (t : ℕ) (g : List Float) (n : ℕ) → Regular (form (wallsCpml x y z t g n)) 0 (SaidAct (wallsCpml x y z t g n))
+unfolding setCpmlCall cpmlFault activeAxes storeLengths canon
+cpml x y z t g n = let a : List Bool = x ∷ y ∷ z ∷ [] in record {
+  fault = λ r s. cpmlFault r (length (s .psiE)) (length (s .psiH)) (length (s .tables)) (length g);
+  next = λ r s. withWalls r (periodicLeft (r .periodic) a) (activeAxes r a t) true;
+  rest = λ r s. absorbed (activeAxes r a t) (layer (zeros (length (s .psiE))) (zeros (length (s .psiH))) (layerTables (r .nx) (r .ny) (r .nz) (activeAxes r a t) g));
+  is = λ r s. refl;
+  idles = λ s. refl;
+  silent = λ s. refl;
+  fault-canon = λ r s.
+      lent-kept r (layerLong (length (s .psiE)) (length (s .psiH)) (length (s .tables)) (storeLengths r) && eqb (length g) (storeLengths r .tables));
+  next-canon = λ r s h. refl;
+  rest-canon = λ r s h. refl;
+  counts = λ r s. nought _;
+  holds = λ said r s h e. record {
+    held = held-walls r (h .held) (periodicLeft (r .periodic) a) (activeAxes r a t) true (left-three (r .periodic) a) refl;
+    fits = fit-layer s (h .fits) (layer (zeros (length (s .psiE))) (zeros (length (s .psiH))) (layerTables (r .nx) (r .ny) (r .nz) (activeAxes r a t) g))
+        (zeros-fit (length (s .psiE))) (zeros-fit (length (s .psiH))) (layer-fit (r .nx) (r .ny) (r .nz) (activeAxes r a t) g said);
+  };
+  sound = λ r s h e.
+      walls-whole r (periodicLeft (r .periodic) a) (activeAxes r a t) true
+      (lent-fine r (layerLong (length (s .psiE)) (length (s .psiH)) (length (s .tables)) (storeLengths r) && eqb (length g) (storeLengths r .tables)) e) (layer-any (activeAxes r a t));
+}
+
+-- ---- the wave: the region may hang on the sizes, and is one that is there
+wave : (g : Record → Region) → ((r : Record) → g (canon r) ≡ g r) → ((r : Record) → canonRegion (g r) ≡ g r)
+    → Regular (storing (λ r s. regionCall r (g r) (s .aux)) (λ s. s .aux) putAux) 0 (Unit {0})
+unfolding regionCall regionFault storeLengths canon
+wave g same there = record {
+  fault = λ r s. regionFault r (g r) (length (s .aux));
+  next = λ r s. withRegion r (g r) (restarted (r .clock));
+  rest = λ r s. zeros (length (s .aux));
+  is = λ r s. refl;
+  idles = λ s. refl;
+  silent = λ s. refl;
+  fault-canon = λ r s. ap (λ (x : Region). regionFault (canon r) x (length (s .aux))) (same r)
+      ∙ ap (λ (n : ℕ). orElse n (first (cornersFit (g r) (r .nx) (r .ny) (r .nz)) badRegion 0)) (lent-kept r (eqb (length (s .aux)) (storeLengths r .aux)));
+  next-canon = λ r s h. ap (λ (x : Region). withRegion (canon r) x (restarted (r .clock))) (same r ∙ sym (there r));
+  rest-canon = λ r s h. refl;
+  counts = λ r s. nought _;
+  holds = λ said r s h e. record { held = held-region r (h .held) (g r); fits = fit-aux s (h .fits) _ (zeros-fit (length (s .aux))) };
+  sound = λ r s h e.
+      let k = or-none (faultLent r (eqb (length (s .aux)) (storeLengths r .aux))) _ e in
+      region-whole r (g r) (restarted (r .clock)) (lent-fine r (eqb (length (s .aux)) (storeLengths r .aux)) (k .0)) (first-none (cornersFit (g r) (r .nx) (r .ny) (r .nz)) 8 0 (k .1) .0);
+}
+
+slab-there : (k0 k1 : ℕ) (r : Record) → canonRegion (slabZ r k0 k1) ≡ slabZ r k0 k1
+unfolding canonRegion
+slab-there k0 k1 r = refl
+
+slab-same : (k0 k1 : ℕ) (r : Record) → slabZ (canon r) k0 k1 ≡ slabZ r k0 k1
+unfolding canon
+slab-same k0 k1 r = refl
+
+injector-there : (k0 : ℕ) (r : Record) → canonRegion (injectorZ r k0) ≡ injectorZ r k0
+unfolding canonRegion
+injector-there k0 r = refl
+
+injector-same : (k0 : ℕ) (r : Record) → injectorZ (canon r) k0 ≡ injectorZ r k0
+unfolding canon
+injector-same k0 r = refl
+
+box-there : (i0 i1 j0 j1 k0 k1 : ℕ) → canonRegion (boxOf i0 i1 j0 j1 k0 k1) ≡ boxOf i0 i1 j0 j1 k0 k1
+unfolding canonRegion
+box-there i0 i1 j0 j1 k0 k1 = refl
+
+-- ---- steps
+steps-canon : (r : Record) (l : Lengths) (ids : List ℕ) (n : ℕ) → stepFault (canon r) l ids n ≡ stepFault r l ids n
+unfolding stepFault storeLengths canon
+steps-canon r l ids n =
+    ap (λ (f : ℕ). orElse f (first (freshIds (r .«built_count») ids) staleMaterial (first (leb (r .clock .steps + n) lastStep) spentClock 0)))
+    (lent-kept r (sameLengths l (storeLengths r)))
+
+known : (r : Record) (s : Stores) (n : ℕ) → stepFault r (lengthsOf s) (s .ids) n ≡ 0 → Known r (s .ids)
+known r s n e = ready r s n e .0 .polar .known
+
+step-fine : (r : Record) (s : Stores) (n : ℕ) → stepFault r (lengthsOf s) (s .ids) n ≡ 0 → faultOf r ≡ 0
+unfolding stepFault
+step-fine r s n e = lent-fine r (sameLengths (lengthsOf s) (storeLengths r)) (or-none (faultWith r (lengthsOf s)) _ e .0)
+
+one-step : (x : Float) → Regular (form (step x)) 1 (SaidAct (step x))
+unfolding stepCall
+one-step x = record {
+  fault = λ r s. stepFault r (lengthsOf s) (s .ids) 1;
+  next = λ r s. ticked r;
+  rest = λ r s. stepped eps0 mu0 c0 r x s;
+  is = λ r s. refl;
+  idles = λ s. refl;
+  silent = λ s. refl;
+  fault-canon = λ r s. steps-canon r (lengthsOf s) (s .ids) 1;
+  next-canon = λ r s h. ticked-kept r;
+  rest-canon = λ r s h. stepped-kept eps0 mu0 c0 r x s (known r s 1 h);
+  counts = λ r s. refl;
+  holds = λ said r s h e. record { held = held-tick r (h .held) (ready r s 1 e .1); fits = stepped-fit eps0 mu0 c0 r x s (h .fits) };
+  sound = λ r s h e. tick-whole r (step-fine r s 1 e);
+}
+
+-- the ids and what they are counted by stand from step to step
+known-on : (r : Record) (x : Float) (s : Stores) → Known r (s .ids) → Known (ticked r) (stepped eps0 mu0 c0 r x s .ids)
+unfolding stepped
+known-on r x s k = k
+
+abbrev canonOut : {A : Type 0} → Outcome A → Outcome A
+canonOut o = outcome (o .refusal) (canon (o .study)) (o .rest)
+
+ran-kept : (r : Record) (xs : List Float) (s : Stores) → Known r (s .ids) → ran eps0 mu0 c0 (canon r) xs s ≡ canonOut (ran eps0 mu0 c0 r xs s)
+unfolding ran
+ran-kept r [] s k = refl
+ran-kept r (x ∷ xs) s k =
+    rw (stepped-kept eps0 mu0 c0 r x s k, ticked-kept r) (ran-kept (ticked r) xs (stepped eps0 mu0 c0 r x s) (known-on r x s k))
+
+ran-counts : (r : Record) (xs : List Float) (s : Stores) → ran eps0 mu0 c0 r xs s .study .clock .steps ≡ r .clock .steps + length xs
+unfolding ran
+ran-counts r [] s = nought _
+ran-counts r (x ∷ xs) s = let e = ran-counts (ticked r) xs (stepped eps0 mu0 c0 r x s) in e ∙ omega arith
+
+many-steps : (xs : List Float) → Regular (form (run xs)) (length xs) (SaidAct (run xs))
+unfolding runCall
+many-steps xs = record {
+  fault = λ r s. stepFault r (lengthsOf s) (s .ids) (length xs);
+  next = λ r s. ran eps0 mu0 c0 r xs s .study;
+  rest = λ r s. ran eps0 mu0 c0 r xs s .rest;
+  is = λ r s. refl;
+  idles = λ s. refl;
+  silent = λ s. refl;
+  fault-canon = λ r s. steps-canon r (lengthsOf s) (s .ids) (length xs);
+  next-canon = λ r s h. ap (λ (o : Outcome Stores). o .study) (ran-kept r xs s (known r s (length xs) h));
+  rest-canon = λ r s h. ap (λ (o : Outcome Stores). o .rest) (ran-kept r xs s (known r s (length xs) h));
+  counts = λ r s. ran-counts r xs s;
+  holds = λ said r s h e. ran-holds r xs s h (ready r s (length xs) e .1);
+  sound = λ r s h e. ran-whole eps0 mu0 c0 r xs s (step-fine r s (length xs) e);
+}
+
+-- ---- fields
+clearing : Regular (form resetFields) 0 (SaidAct resetFields)
+unfolding resetCall storeLengths canon
+clearing = record {
+  fault = λ r s. faultLent r (resetLong (length (s .electric)) (length (s .magnetic)) (length (s .psiE)) (length (s .psiH)) (length (s .poles)) (storeLengths r));
+  next = λ r s. r;
+  rest = λ r s. reset (cleared (s .electric)) (cleared (s .magnetic)) (cleared (s .psiE)) (cleared (s .psiH)) (cleared (s .poles));
+  is = λ r s. refl;
+  idles = λ s. refl;
+  silent = λ s. refl;
+  fault-canon = λ r s. lent-kept r (resetLong (length (s .electric)) (length (s .magnetic)) (length (s .psiE)) (length (s .psiH)) (length (s .poles)) (storeLengths r));
+  next-canon = λ r s h. refl;
+  rest-canon = λ r s h. refl;
+  counts = λ r s. nought _;
+  holds = λ said r s h e. record { held = h .held; fits = fit-reset s (h .fits) };
+  sound = λ r s h e. lent-fine r (resetLong (length (s .electric)) (length (s .magnetic)) (length (s .psiE)) (length (s .psiH)) (length (s .poles)) (storeLengths r)) e;
+}
+
+energy : (n : ℕ) → Regular (form (totalEnergy n)) 0 (SaidAct (totalEnergy n))
+unfolding energyCall energyFault energyOf storeLengths canon
+energy n = record {
+  fault = λ r s. energyFault r (length (s .electric)) (length (s .magnetic)) (length (s .media));
+  next = λ r s. r;
+  rest = λ r s. energyOf eps0 mu0 r (s .electric) (s .magnetic) (s .media);
+  is = λ r s. refl;
+  idles = λ s. refl;
+  silent = λ s. refl;
+  fault-canon = λ r s.
+      lent-kept r (eqb (length (s .electric)) (storeLengths r .electric) && eqb (length (s .magnetic)) (storeLengths r .magnetic) && eqb (length (s .media)) (storeLengths r .media));
+  next-canon = λ r s h. refl;
+  rest-canon = λ r s h. refl;
+  counts = λ r s. nought _;
+  holds = λ said r s h e. h;
+  sound = λ r s h e. lent-fine r (eqb (length (s .electric)) (storeLengths r .electric) && eqb (length (s .magnetic)) (storeLengths r .magnetic) && eqb (length (s .media)) (storeLengths r .media)) e;
+}
+
+plane : (k n : ℕ) → Regular (form (planeReading k n)) 0 (SaidAct (planeReading k n))
+unfolding planeCall planeFault planeOf storeLengths canon
+plane k n = record {
+  fault = λ r s. planeFault r k (length (s .electric)) (length (s .magnetic));
+  next = λ r s. r;
+  rest = λ r s. planeOf r k (s .electric) (s .magnetic);
+  is = λ r s. refl;
+  idles = λ s. refl;
+  silent = λ s. refl;
+  fault-canon = λ r s. ap (λ (n : ℕ). orElse n (first (ltb k (r .nz)) noSuchPlane 0))
+      (lent-kept r (eqb (length (s .electric)) (storeLengths r .electric) && eqb (length (s .magnetic)) (storeLengths r .magnetic)));
+  next-canon = λ r s h. refl;
+  rest-canon = λ r s h. refl;
+  counts = λ r s. nought _;
+  holds = λ said r s h e. h;
+  sound = λ r s h e.
+      let lent = eqb (length (s .electric)) (storeLengths r .electric) && eqb (length (s .magnetic)) (storeLengths r .magnetic) in
+      lent-fine r lent (or-none (faultLent r lent) _ e .0);
+}
+
+-- ---- the length of a save
+asked-length : (n : ℕ) → Regular (form (saveLength n)) 0 (SaidAct (saveLength n))
+unfolding lengthCall bytesLong canon
+asked-length n = record {
+  fault = λ r s. faultOf r;
+  next = λ r s. r;
+  rest = λ r s. bytesLong r;
+  is = λ r s. refl;
+  idles = λ s. refl;
+  silent = λ s. refl;
+  fault-canon = λ r s. canon-fault r;
+  next-canon = λ r s h. refl;
+  rest-canon = λ r s h. refl;
+  counts = λ r s. nought _;
+  holds = λ said r s h e. h;
+  sound = λ r s h e. e;
+}
+
+pub regular : (c : Act) → Regular (form c) (weightOf c) (SaidAct c)
+regular (setMaterial b eps mu sigma) = set-material b eps mu sigma
+regular (assignBox id b) = assign id (λ r. b) (λ r. refl)
+regular (assignHalfspace id k0) = assign id (λ r. halfspace r k0) (half-same k0)
+regular (addMaterial m n) = add m n
+regular buildDispersion = build
+regular (setPeriodic x y z) = periodic x y z
+regular wallsPeriodic = plain-walls true
+regular wallsConductor = plain-walls false
+regular (wallsLossy a) = lossy a
+regular (wallsCpml x y z t g n) = cpml x y z t g n
+regular (slab k0 k1) = wave (λ r. slabZ r k0 k1) (slab-same k0 k1) (slab-there k0 k1)
+regular (injector k0) = wave (λ r. injectorZ r k0) (injector-same k0) (injector-there k0)
+regular (boxRegion i0 i1 j0 j1 k0 k1) = wave (λ r. boxOf i0 i1 j0 j1 k0 k1) (λ r. refl) (λ r. box-there i0 i1 j0 j1 k0 k1)
+regular (step x) = one-step x
+regular (run xs) = many-steps xs
+regular resetFields = clearing
+regular (totalEnergy n) = energy n
+regular (planeReading k n) = plane k n
+regular (saveLength n) = asked-length n
+
+-- a reading leaves the record
+pub reads : (n k : ℕ) (r : Record) (s : Stores)
+    → (regular (totalEnergy n) .next r s ≡ r) × (regular (planeReading k n) .next r s ≡ r) × (regular (saveLength n) .next r s ≡ r)
+unfolding regular energy plane asked-length
+reads n k r s = (refl, refl, refl)

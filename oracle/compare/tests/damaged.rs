@@ -1,0 +1,181 @@
+//! Damaged saves: the engine and the second reading name the same fault. A save that is refused leaves
+//! block and stores as they were, bit for bit; one that is accepted is what its study writes.
+//!
+//! CICHOWIEJ_DAMAGED sets their number (`make compare-long`: a million).
+
+use compare::damage::{DAMAGES, Damage, Sound};
+use compare::difference::{first_difference, untouched};
+use compare::engine::{Study, block};
+use compare::judge::{BAD_STORE, lengths, refusal};
+use compare::{Random, call, report, save, sound, variable};
+use std::collections::BTreeMap;
+use std::fs;
+use std::path::Path;
+
+const DAMAGED: u64 = 5_000;
+/// Damaged saves of one sound save.
+const EACH: u64 = 40;
+/// The answers that a rewind can give.
+const ANSWERS: [u32; 6] = [0, 4, 13, 14, 15, 16];
+
+/// How often each kind of damage got each answer, and of what kinds the sound saves were.
+#[derive(Default)]
+struct Tally {
+    answers: BTreeMap<Damage, BTreeMap<u32, u64>>,
+    kinds: BTreeMap<&'static str, u64>,
+}
+
+/// What a sound save can have in it.
+fn kinds(save: &Sound) -> [(&'static str, bool); 16] {
+    let record = &save.record;
+    let study = save::read(&save.bytes).unwrap();
+    let stores = study.stores();
+    let some = |kind: fn(&f64) -> bool| stores.iter().any(|(_, store)| store.iter().any(kind));
+    [
+        ("periodic", record.periodic.contains(&true)),
+        ("conducting", record.periodic.contains(&false)),
+        ("layer on", record.layer_on),
+        ("active layer", record.active.contains(&true)),
+        ("no region", record.region.kind == 0),
+        ("slab", record.region.kind == 1),
+        ("injector", record.region.kind == 2),
+        ("box", record.region.kind == 3),
+        ("no slots", record.pole_slots == 0),
+        ("four slots", record.pole_slots == 4),
+        ("built", record.built_count != 0),
+        ("16 materials", record.material_count == 16),
+        ("NaN", some(|x| x.is_nan())),
+        ("infinity", some(|x| x.is_infinite())),
+        ("subnormal", some(|x| x.is_subnormal())),
+        ("-0.0", some(|x| *x == 0.0 && x.is_sign_negative())),
+    ]
+}
+
+/// Noise to be rewound into; now and then with a block or a store of another length.
+fn lent(random: &mut Random, noise: &Study) -> Study {
+    let mut study = noise.clone();
+    if !random.once_in(8) {
+        return study;
+    }
+    let store = random.index(10);
+    let right = match store {
+        9 => block::LENGTH,
+        store => length(noise, store),
+    };
+    let length = [0, right / 2, right - 1, right + 1][random.index(4)];
+    match store {
+        9 => study.block.resize(length, 7),
+        8 => study.ids.resize(length, 7),
+        store => study.stores_mut()[store].resize(length, 7.0),
+    }
+    study
+}
+
+fn length(study: &Study, store: usize) -> usize {
+    let stores = study.stores();
+    stores.get(store).map_or(study.ids.len(), |(_, s)| s.len())
+}
+
+/// A rewind to any bytes, beside the second reading; the number that both answer.
+fn rewound(bytes: &[u8], lent: &Study) -> u32 {
+    let due = refusal(lent, &call::Call::Rewind(call::Bytes(bytes.to_vec())));
+    let mut after = lent.clone();
+    assert_eq!(after.rewind(bytes), due, "refusal");
+    if due != 0 {
+        assert!(untouched(lent, &after), "refused as {due}, and written");
+        return due;
+    }
+    let read = save::read(bytes).unwrap();
+    assert_eq!(first_difference(&read, &after), None);
+    let again = after.saved(bytes.len());
+    assert_eq!(again.refusal, 0, "saved again");
+    assert!(again.room == bytes, "saved again, it has other bytes");
+    0
+}
+
+/// The same, and where the two do not agree the bytes are kept.
+fn tried(bytes: &[u8], lent: &Study, damage: Damage, turn: u64) -> u32 {
+    let mut answer = 0;
+    if let Some(said) = compare::complaint(|| answer = rewound(bytes, lent)) {
+        let kept = Path::new(env!("CARGO_TARGET_TMPDIR")).join("damaged-save");
+        fs::write(&kept, bytes).unwrap();
+        let kept = kept.display();
+        panic!("save {turn}, damaged by {damage:?}: {said}\nits bytes are in {kept}");
+    }
+    answer
+}
+
+#[test]
+fn damaged_saves() {
+    let count = variable("CICHOWIEJ_DAMAGED").unwrap_or(DAMAGED);
+    let mut random = Random::new(2000);
+    let mut tally = Tally::default();
+    let first = sound::small(&mut random);
+    let mut other = Sound::new(&sound::study(&mut random, first));
+    for turn in 0..count.div_ceil(EACH) {
+        let sizes = match random.once_in(3) {
+            true => other.record.sizes,
+            false => sound::small(&mut random),
+        };
+        let save = Sound::new(&sound::study(&mut random, sizes));
+        for (kind, holds) in kinds(&save) {
+            *tally.kinds.entry(kind).or_default() += u64::from(holds);
+        }
+        let noise = sound::noise(&mut random, sizes, save.record.pole_slots.into());
+        for _ in 0..EACH {
+            let damage = DAMAGES[random.index(DAMAGES.len())];
+            let bytes = save.damaged(&mut random, damage, &other);
+            let answer = tried(&bytes, &lent(&mut random, &noise), damage, turn);
+            let answers = tally.answers.entry(damage).or_default();
+            *answers.entry(answer).or_default() += 1;
+        }
+        other = save;
+    }
+    tally.told();
+}
+
+impl Tally {
+    /// Every kind of damage was tried on saves of every kind, and every answer met.
+    fn told(&self) {
+        let mut met = BTreeMap::new();
+        for (answer, n) in self.answers.values().flatten() {
+            *met.entry(*answer).or_insert(0) += n;
+        }
+        let all: u64 = met.values().sum();
+        report(&format!("damaged saves: {all}, answers {met:?}"));
+        for (damage, answers) in &self.answers {
+            report(&format!("  {damage:?} {answers:?}"));
+        }
+        report(&format!("  of sound ones {:?}", self.kinds));
+        assert!(met.into_keys().eq(ANSWERS));
+        assert_eq!(self.answers.len(), DAMAGES.len());
+        assert!(self.kinds.values().all(|n| *n > 0));
+    }
+}
+
+/// What is lent is looked at last: whatever is wrong with a save comes before it.
+#[test]
+fn what_is_lent_comes_last() {
+    let mut random = Random::new(2007);
+    for _ in 0..50 {
+        let sizes = sound::small(&mut random);
+        let save = Sound::new(&sound::study(&mut random, sizes));
+        let slots = save.record.pole_slots.into();
+        let noise = sound::noise(&mut random, sizes, slots);
+        assert_eq!(rewound(&save.bytes, &noise), 0);
+        for store in 0..9 {
+            let mut short = noise.clone();
+            let length = lengths(sizes, slots)[store] - 1;
+            match store {
+                8 => short.ids.truncate(length),
+                store => short.stores_mut()[store].truncate(length),
+            }
+            assert_eq!(rewound(&save.bytes, &short), BAD_STORE);
+            for damage in DAMAGES {
+                let bytes = save.damaged(&mut random, damage, &save);
+                let expected = save::read(&bytes).err().unwrap_or(BAD_STORE);
+                assert_eq!(rewound(&bytes, &short), expected);
+            }
+        }
+    }
+}

@@ -1,0 +1,74 @@
+//! What the lists came by, so that a generator that misses something is seen.
+
+use compare::call::Call;
+use compare::engine::Study;
+use compare::report;
+use std::collections::BTreeMap;
+
+#[derive(Default)]
+pub struct Tally {
+    lists: u64,
+    calls: BTreeMap<String, u64>,
+    refusals: BTreeMap<u32, u64>,
+    met: BTreeMap<&'static str, u64>,
+}
+
+/// What has to be met.
+pub const EQUAL_SAVES: &str = "saves with the bytes of an earlier one and another history";
+pub const LATEST: &str = "rewinds to bytes with several histories";
+pub const ACROSS: &str = "rewinds across an opening of other sizes";
+pub const ABANDONED: &str = "rewinds to a save that stands no more";
+const STANDING: &str = "calls that stand at the end";
+pub const FURTHER: &str = "further calls";
+const FINITE: &str = "ends with finite fields that are not all zero";
+const NANS: &str = "ends with a NaN in a field";
+const ALL: [&str; 8] = [
+    EQUAL_SAVES,
+    LATEST,
+    ACROSS,
+    ABANDONED,
+    STANDING,
+    FURTHER,
+    FINITE,
+    NANS,
+];
+
+impl Tally {
+    pub fn count(&mut self, call: &Call, refusal: u32) {
+        *self.calls.entry(call.name()).or_default() += 1;
+        *self.refusals.entry(refusal).or_default() += 1;
+    }
+
+    pub fn meet(&mut self, what: &'static str, times: usize) {
+        *self.met.entry(what).or_default() += times as u64;
+    }
+
+    /// Counts the end of a list by what the fields hold.
+    pub fn end(&mut self, study: &Study, standing: usize) {
+        let fields = || study.e.iter().chain(&study.h);
+        let finite = fields().all(|x| x.is_finite()) && fields().any(|x| *x != 0.0);
+        self.meet(FINITE, finite.into());
+        self.meet(NANS, fields().any(|x| x.is_nan()).into());
+        self.meet(STANDING, standing);
+        self.lists += 1;
+    }
+
+    pub fn report(&self) {
+        let calls: u64 = self.calls.values().sum();
+        report(&format!(
+            "histories: {} lists of {calls} calls, each equal to the run of the calls that stand",
+            self.lists
+        ));
+        report(&format!("  calls {:?}", self.calls));
+        report(&format!("  answers {:?}", self.refusals));
+        report(&format!("  {:?}", self.met));
+    }
+
+    /// Every kind of call, every refusal that there is, and what the rules speak of.
+    pub fn is_varied(&self) -> bool {
+        let met = |what| self.met.get(what).is_some_and(|n| *n > 0);
+        self.calls.len() == 22
+            && (0..=17).all(|n| self.refusals.contains_key(&n))
+            && ALL.iter().all(met)
+    }
+}

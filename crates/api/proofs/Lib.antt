@@ -1,4 +1,3 @@
 -- Laws that the functions' proofs cite.
 pub mod Passing
-pub mod Three
 pub mod Vacuum

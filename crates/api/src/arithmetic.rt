@@ -5,9 +5,9 @@ ghost use Rattle.root.specs.Constants as vacuum;
 ghost use Rattle.root.specs.Courant.{courantNumber, courantLimit, stable};
 ghost use Rattle.dispersion.specs.Ade.{adeCoeffs};
 ghost use Rattle.boundary.specs.Lossy.{power, wallSigma, stronger};
-ghost use Rattle.api.specs.Poles.{poleOf, taken, coeffsOr};
+ghost use Rattle.calls.specs.Poles.{poleOf, taken, coeffsOr};
 use boundary::lossy;
-use dispersion::Pole;
+use calls::poles;
 use root::Spacings;
 
 // ---- constants of vacuum
@@ -65,28 +65,6 @@ pub extern "C" fn cichowiej_is_stable(c0: f64, dx: f64, dy: f64, dz: f64, dt: f6
 
 // ---- the coefficients of a pole
 
-fn pole_of(tag: u32, x: f64, y: f64, z: f64) -> Pole
-    ensures { λ r. ⌜ r ≡ poleOf tag x y z ⌝ }
-{
-    if tag == 1 {
-        return Pole::Lorentz {
-            delta_eps: x,
-            omega0: y,
-            gamma: z,
-        };
-    }
-    if tag == 2 {
-        return Pole::Drude {
-            omega_p: x,
-            gamma: y,
-        };
-    }
-    Pole::Debye {
-        delta_eps: x,
-        tau: y,
-    }
-}
-
 // Writes a1, a2, a3 and answers true; another tag than 1 to 3 or another length than 3 answers false
 // and writes nothing.
 #[no_mangle]
@@ -101,14 +79,7 @@ pub extern "C" fn cichowiej_ade_coeffs(
 ) -> bool
     ensures { λ r. ⌜ (r ≡ taken tag (now (out .entry))) × (now (out .exit) ≡ coeffsOr r (adeCoeffs eps0 dt (poleOf tag x y z)) (now (out .entry))) ⌝ }
 {
-    if !((1 <= tag) & (tag <= 3) & (out.len() == 3)) {
-        return false;
-    }
-    let c = pole_of(tag, x, y, z).ade_coeffs(eps0, dt);
-    out[0] = c.a1;
-    out[1] = c.a2;
-    out[2] = c.a3;
-    true
+    poles::put_coeffs(tag, x, y, z, eps0, dt, out)
 }
 
 // ---- the lossy edge's conductivity

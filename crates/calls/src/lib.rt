@@ -1,1 +1,2 @@
-// What each C function comes to stands in specs/; the functions are `api`'s.
+// What each C function on a study comes to stands in specs/Blocks.antt; the functions are `api`'s.
+pub mod poles;

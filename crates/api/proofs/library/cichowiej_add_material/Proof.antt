@@ -1,4 +1,3 @@
-use borrow.Author.Needs.{needs}
 use Rattle.study.proofs.Holding.{all-bytes}
 use Rattle.study.proofs.Entries.{«cichowiej_add_material»}
 use Rattle.api.proofs.library.cichowiej_add_material.Statement.{statement}
@@ -11,7 +10,7 @@ pub cichowiej-add-material-spec : {M : Type 1} → statement M
 cichowiej-add-material-spec =
     tie.close
     (tie.spec
-    (λ c κs. search needs)
+    (λ c κs. tt)
     (λ c. c .before .before .before .before .add-material .kept .0)
     (λ c. c .before .before .before .before .add-material .kept .1 .1 .0)
     returns)

@@ -1,4 +1,3 @@
-use borrow.Author.Needs.{needs}
 use Rattle.study.proofs.Entries.{«cichowiej_plane_reading»}
 use Rattle.api.proofs.readings.cichowiej_plane_reading.Statement.{statement}
 use Rattle.api.proofs.readings.cichowiej_plane_reading.Tie as tie
@@ -10,6 +9,6 @@ pub cichowiej-plane-reading-spec : {M : Type 1} → statement M
 cichowiej-plane-reading-spec =
     tie.close
     (tie.spec
-    (λ c κs. search needs)
+    (λ c κs. tt)
     (λ c. c .before .before .plane-reading .kept .1 .1 .1 .1 .0)
     returns)

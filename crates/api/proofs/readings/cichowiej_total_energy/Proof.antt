@@ -1,4 +1,3 @@
-use borrow.Author.Needs.{needs}
 use Rattle.study.proofs.Entries.{«cichowiej_total_energy»}
 use Rattle.api.proofs.readings.cichowiej_total_energy.Statement.{statement}
 use Rattle.api.proofs.readings.cichowiej_total_energy.Tie as tie
@@ -10,6 +9,6 @@ pub cichowiej-total-energy-spec : {M : Type 1} → statement M
 cichowiej-total-energy-spec =
     tie.close
     (tie.spec
-    (λ c κs. search needs)
+    (λ c κs. tt)
     (λ c. c .before .before .total-energy .kept .1 .1 .1 .1 .0)
     returns)

@@ -1,4 +1,3 @@
-use borrow.Author.Needs.{needs}
 use Rattle.study.proofs.Holding.{all-bytes}
 use Rattle.study.proofs.Entries.{«cichowiej_rewind»}
 use Rattle.api.proofs.saving.cichowiej_rewind.Statement.{statement}
@@ -11,7 +10,7 @@ pub cichowiej-rewind-spec : {M : Type 1} → statement M
 cichowiej-rewind-spec =
     tie.close
     (tie.spec
-    (λ c κs. search needs)
+    (λ c κs. tt)
     (λ c. c .before .before .before .before .before .before .before .before .before .before .before .before .before .before .before .before .before .before .before .before .rewind .kept .0)
     (λ c. c .before .before .before .before .before .before .before .before .before .before .before .before .before .before .before .before .before .before .before .before .rewind .kept .1 .1 .0)
     (λ c. c .before .before .before .before .before .before .before .before .before .before .before .before .before .before .before .before .before .before .before .before .rewind .kept .1 .1 .1 .0)

@@ -1,4 +1,3 @@
-use borrow.Author.Needs.{needs}
 use Rattle.study.proofs.Entries.{«cichowiej_save»}
 use Rattle.api.proofs.saving.cichowiej_save.Statement.{statement}
 use Rattle.api.proofs.saving.cichowiej_save.Tie as tie
@@ -10,6 +9,6 @@ pub cichowiej-save-spec : {M : Type 1} → statement M
 cichowiej-save-spec =
     tie.close
     (tie.spec
-    (λ c κs. search needs)
+    (λ c κs. tt)
     (λ c. c .before .before .save .kept .1 .1 .1 .1 .1 .1 .1 .1 .1 .1 .0)
     returns)

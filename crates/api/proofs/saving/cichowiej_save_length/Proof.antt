@@ -1,4 +1,3 @@
-use borrow.Author.Needs.{needs}
 use Rattle.study.proofs.Entries.{«cichowiej_save_length»}
 use Rattle.api.proofs.saving.cichowiej_save_length.Statement.{statement}
 use Rattle.api.proofs.saving.cichowiej_save_length.Tie as tie
@@ -10,6 +9,6 @@ pub cichowiej-save-length-spec : {M : Type 1} → statement M
 cichowiej-save-length-spec =
     tie.close
     (tie.spec
-    (λ c κs. search needs)
+    (λ c κs. tt)
     (λ c. c .before .before .save-length .kept .1 .0)
     returns)

@@ -1,4 +1,3 @@
-use borrow.Author.Needs.{needs}
 use Rattle.study.proofs.Holding.{all-held}
 use Rattle.study.proofs.Entries.{«cichowiej_run»}
 use Rattle.api.proofs.steps.cichowiej_run.Statement.{statement}
@@ -11,7 +10,7 @@ pub cichowiej-run-spec : {M : Type 1} → statement M
 cichowiej-run-spec =
     tie.close
     (tie.spec
-    (λ c κs. search needs)
+    (λ c κs. tt)
     (λ c. c .before .before .before .before .before .before .before .before .before .before .before .before .before .before .run .kept .0)
     (λ c. c .before .before .before .before .before .before .before .before .before .before .before .before .before .before .run .kept .1 .1 .0)
     (λ c. c .before .before .before .before .before .before .before .before .before .before .before .before .before .before .run .kept .1 .1 .1 .0)

@@ -1,4 +1,3 @@
-use borrow.Author.Needs.{needs}
 use Rattle.study.proofs.Holding.{held-more, held-none}
 use Rattle.study.proofs.Entries.{«cichowiej_step»}
 use Rattle.api.proofs.steps.cichowiej_step.Statement.{statement}
@@ -11,7 +10,7 @@ pub cichowiej-step-spec : {M : Type 1} → statement M
 cichowiej-step-spec =
     tie.close
     (tie.spec
-    (λ c κs. search needs)
+    (λ c κs. tt)
     (λ c. c .before .before .before .before .before .before .before .before .before .before .before .before .before .before .step .kept .0)
     (λ c. c .before .before .before .before .before .before .before .before .before .before .before .before .before .before .step .kept .1 .1 .0)
     (λ c. c .before .before .before .before .before .before .before .before .before .before .before .before .before .before .step .kept .1 .1 .1 .0)

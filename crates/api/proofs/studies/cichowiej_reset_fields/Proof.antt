@@ -1,4 +1,3 @@
-use borrow.Author.Needs.{needs}
 use Rattle.study.proofs.Entries.{«cichowiej_reset_fields»}
 use Rattle.api.proofs.studies.cichowiej_reset_fields.Statement.{statement}
 use Rattle.api.proofs.studies.cichowiej_reset_fields.Tie as tie
@@ -10,7 +9,7 @@ pub cichowiej-reset-fields-spec : {M : Type 1} → statement M
 cichowiej-reset-fields-spec =
     tie.close
     (tie.spec
-    (λ c κs. search needs)
+    (λ c κs. tt)
     (λ c. c .before .before .before .before .before .before .before .before .before .before .before .before .reset-fields .kept .0)
     (λ c. c .before .before .before .before .before .before .before .before .before .before .before .before .reset-fields .kept .1 .0)
     (λ c. c .before .before .before .before .before .before .before .before .before .before .before .before .reset-fields .kept .1 .1 .0)

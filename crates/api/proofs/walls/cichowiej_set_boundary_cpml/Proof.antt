@@ -1,4 +1,3 @@
-use borrow.Author.Needs.{needs}
 use Rattle.study.proofs.Holding.{all-held}
 use Rattle.study.proofs.Entries.{«cichowiej_set_boundary_cpml»}
 use Rattle.api.proofs.walls.cichowiej_set_boundary_cpml.Statement.{statement}
@@ -11,7 +10,7 @@ pub cichowiej-set-boundary-cpml-spec : {M : Type 1} → statement M
 cichowiej-set-boundary-cpml-spec =
     tie.close
     (tie.spec
-    (λ c κs. search needs)
+    (λ c κs. tt)
     (λ c. c .before .before .before .before .before .before .before .before .before .before .set-boundary-cpml .kept .0)
     (λ c. c .before .before .before .before .before .before .before .before .before .before .set-boundary-cpml .kept .1 .1 .1 .1 .1 .1 .0)
     (λ c. c .before .before .before .before .before .before .before .before .before .before .set-boundary-cpml .kept .1 .1 .1 .1 .1 .1 .1 .0)

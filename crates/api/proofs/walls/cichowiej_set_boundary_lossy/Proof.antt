@@ -1,4 +1,3 @@
-use borrow.Author.Needs.{needs}
 use Rattle.study.proofs.Holding.{held-more, held-none}
 use Rattle.study.proofs.Entries.{«cichowiej_set_boundary_lossy»}
 use Rattle.api.proofs.walls.cichowiej_set_boundary_lossy.Statement.{statement}
@@ -11,7 +10,7 @@ pub cichowiej-set-boundary-lossy-spec : {M : Type 1} → statement M
 cichowiej-set-boundary-lossy-spec =
     tie.close
     (tie.spec
-    (λ c κs. search needs)
+    (λ c κs. tt)
     (λ c. c .before .before .before .before .before .before .before .before .before .before .set-boundary-lossy .kept .0)
     (λ c. c .before .before .before .before .before .before .before .before .before .before .set-boundary-lossy .kept .1 .1 .1 .1 .0)
     (λ c. c .before .before .before .before .before .before .before .before .before .before .set-boundary-lossy .kept .1 .1 .1 .1 .1 .0)

@@ -1,4 +1,3 @@
-use borrow.Author.Needs.{needs}
 use Rattle.study.proofs.Entries.{«cichowiej_set_boundary_periodic»}
 use Rattle.api.proofs.walls.cichowiej_set_boundary_periodic.Statement.{statement}
 use Rattle.api.proofs.walls.cichowiej_set_boundary_periodic.Tie as tie
@@ -10,7 +9,7 @@ pub cichowiej-set-boundary-periodic-spec : {M : Type 1} → statement M
 cichowiej-set-boundary-periodic-spec =
     tie.close
     (tie.spec
-    (λ c κs. search needs)
+    (λ c κs. tt)
     (λ c. c .before .before .before .before .before .before .before .before .set-boundary-periodic .kept .0)
     (λ c. c .before .before .before .before .before .before .before .before .set-boundary-periodic .kept .1 .0)
     (λ c. c .before .before .before .before .before .before .before .before .set-boundary-periodic .kept .1 .1 .0)

@@ -1,4 +1,3 @@
-use borrow.Author.Needs.{needs}
 use Rattle.study.proofs.Entries.{«cichowiej_set_periodic»}
 use Rattle.api.proofs.walls.cichowiej_set_periodic.Statement.{statement}
 use Rattle.api.proofs.walls.cichowiej_set_periodic.Tie as tie
@@ -10,6 +9,6 @@ pub cichowiej-set-periodic-spec : {M : Type 1} → statement M
 cichowiej-set-periodic-spec =
     tie.close
     (tie.spec
-    (λ c κs. search needs)
+    (λ c κs. tt)
     (λ c. c .before .before .set-periodic .kept .0)
     returns)

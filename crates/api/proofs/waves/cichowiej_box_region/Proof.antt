@@ -1,4 +1,3 @@
-use borrow.Author.Needs.{needs}
 use Rattle.study.proofs.Entries.{«cichowiej_box_region»}
 use Rattle.api.proofs.waves.cichowiej_box_region.Statement.{statement}
 use Rattle.api.proofs.waves.cichowiej_box_region.Tie as tie
@@ -10,7 +9,7 @@ pub cichowiej-box-region-spec : {M : Type 1} → statement M
 cichowiej-box-region-spec =
     tie.close
     (tie.spec
-    (λ c κs. search needs)
+    (λ c κs. tt)
     (λ c. c .before .before .before .before .box-region .kept .0)
     (λ c. c .before .before .before .before .box-region .kept .1 .1 .1 .1 .1 .1 .1 .0)
     returns)

@@ -1,4 +1,3 @@
-use borrow.Author.Needs.{needs}
 use Rattle.study.proofs.Entries.{«cichowiej_injector_z»}
 use Rattle.api.proofs.waves.cichowiej_injector_z.Statement.{statement}
 use Rattle.api.proofs.waves.cichowiej_injector_z.Tie as tie
@@ -10,7 +9,7 @@ pub cichowiej-injector-z-spec : {M : Type 1} → statement M
 cichowiej-injector-z-spec =
     tie.close
     (tie.spec
-    (λ c κs. search needs)
+    (λ c κs. tt)
     (λ c. c .before .before .before .before .injector-z .kept .0)
     (λ c. c .before .before .before .before .injector-z .kept .1 .1 .0)
     returns)

@@ -1,7 +1,7 @@
 use borrow.Author.Tests.{eq-eqb, ne-eqb}
-use Rattle.api.specs.Poles.{poleOf}
-use Rattle.api.proofs.arithmetic.pole_of.Statement.{statement}
-use Rattle.api.proofs.arithmetic.pole_of.Tie as tie
+use Rattle.calls.specs.Poles.{poleOf}
+use Rattle.calls.proofs.poles.pole_of.Statement.{statement}
+use Rattle.calls.proofs.poles.pole_of.Tie as tie
 
 returns : tie.Need-returns
 unfolding poleOf

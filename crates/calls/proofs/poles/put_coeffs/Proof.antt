@@ -5,12 +5,12 @@ use mathlib.Core.Path.{_≡_, refl, sym, ap, _∙_}
 use native.Mathlib.Omega.{arith}
 use lib.ListN.{length, length-set}
 use borrow.Author.Tests.{not-true, not-false}
-use Rattle.api.specs.Poles.{taken, coeffsOr}
-use Rattle.api.proofs.Three.{three, room}
+use Rattle.calls.specs.Poles.{taken, coeffsOr}
+use Rattle.calls.proofs.Three.{three, room}
 use Rattle.dispersion.specs.Ade.{adeCoeffs}
 use borrow.Author.Needs.{needs}
-use Rattle.api.proofs.arithmetic.cichowiej_ade_coeffs.Statement.{statement}
-use Rattle.api.proofs.arithmetic.cichowiej_ade_coeffs.Tie as tie
+use Rattle.calls.proofs.poles.put_coeffs.Statement.{statement}
+use Rattle.calls.proofs.poles.put_coeffs.Tie as tie
 
 returns : tie.Need-returns
 unfolding taken coeffsOr
@@ -28,8 +28,8 @@ returns-2 c =
     let same = c .ade-coeffs .ensures ∙ ap (adeCoeffs (a .eps0) (a .dt)) (c .before .pole-of .ensures) in
     (sym (not-false _ (c .before .before .if1 .left)), three (a .out .now) _ _ _ (three-long c) ∙ rw same)
 
-pub cichowiej-ade-coeffs-spec : {M : Type 1} → statement M
-cichowiej-ade-coeffs-spec =
+pub put-coeffs-spec : {M : Type 1} → statement M
+put-coeffs-spec =
     tie.close
     (tie.spec
     returns

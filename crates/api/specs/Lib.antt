@@ -1,2 +1,0 @@
--- What the contracts of api cite.
-pub mod Poles

@@ -8,6 +8,18 @@ pub fn seconds(work: impl FnOnce()) -> f64 {
     start.elapsed().as_secs_f64()
 }
 
+/// The times of two works; in every second round the other one goes first.
+#[cfg(original)]
+pub fn by_turns(round: usize, one: impl FnOnce(), other: impl FnOnce()) -> [f64; 2] {
+    if round.is_multiple_of(2) {
+        let time = seconds(one);
+        [time, seconds(other)]
+    } else {
+        let time = seconds(other);
+        [seconds(one), time]
+    }
+}
+
 /// The best of some times and their median, in units of which `each` make a second.
 pub fn best_and_median(mut times: Vec<f64>, each: f64) -> [f64; 2] {
     times.sort_by(f64::total_cmp);
@@ -19,8 +31,19 @@ pub fn heading(names: [&str; 5]) -> String {
     format!("{what:<44}{ours:>16}{theirs:>18}{ratio:>9}{target:>9}")
 }
 
-/// Best and median of ours and of theirs, their ratio and its target.
-pub fn row(name: &str, ours: [f64; 2], theirs: [f64; 2], ratio: f64, target: f64) -> String {
-    let [ours, theirs] = [ours, theirs].map(|[best, median]| format!("{best:.2} ({median:.2})"));
-    format!("{name:<44}{ours:>16}{theirs:>18}{ratio:>9.2}{target:>9.1}")
+/// Best and median of ours and of theirs, their ratio and its target, where it has one.
+pub fn row(
+    name: &str,
+    ours: [f64; 2],
+    theirs: [f64; 2],
+    ratio: f64,
+    target: Option<f64>,
+) -> String {
+    let [ours, theirs] = [ours, theirs].map(shown);
+    let target = target.map_or("-".into(), |target| format!("{target:.1}"));
+    format!("{name:<44}{ours:>16}{theirs:>18}{ratio:>9.2}{target:>9}")
+}
+
+pub fn shown([best, median]: [f64; 2]) -> String {
+    format!("{best:.2} ({median:.2})")
 }

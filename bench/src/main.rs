@@ -1,10 +1,13 @@
-//! The engine's time for a step beside the original's, on the same studies in one run; and its time for
-//! the largest save and the rewind to it, beside a plain copy's.
+//! The engine's time for a step beside the original's, on the same studies in one run; for steps taken one
+//! by one beside those of a run; for small calls; and for the largest save and the rewind to it, beside a
+//! plain copy's.
 //!
 //! Both are built for the processor's common ground (no flag names a newer one); the original with
-//! the workspace's release profile: opt-level 3, one codegen unit, no link-time optimization. Rounds
-//! of ours and theirs take turns, and at the end every number of both has to agree.
+//! the workspace's release profile: opt-level 3, one codegen unit, no link-time optimization. In a
+//! round ours and theirs take turns, the other one first in every second round, and at the end every number
+//! of both has to agree.
 
+mod calls;
 mod clock;
 mod saves;
 #[cfg(original)]
@@ -18,6 +21,7 @@ use std::env;
 fn main() {
     if env::args().nth(1).as_deref() != Some("saves") {
         steps();
+        calls::print();
     }
     saves::print();
 }
@@ -31,6 +35,14 @@ fn steps() {
     println!("{}", clock::heading(names));
     for study in studies::all() {
         println!("{}", timing::row(&study));
+    }
+    println!(
+        "steps one by one: each reads the block and looks at every id; ns for a cell and step, best of the rounds (median); the target is the most"
+    );
+    let names = ["study", "one by one", "in a run", "ratio", "target"];
+    println!("{}", clock::heading(names));
+    for study in studies::single() {
+        println!("{}", timing::single_row(&study));
     }
 }
 

@@ -85,7 +85,7 @@ pub fn print() {
     let copy = best_and_median(times.copy, MILLISECONDS);
     for (name, times, target) in [("save", times.save, 2.5), ("rewind", times.rewind, 4.0)] {
         let ours = best_and_median(times, MILLISECONDS);
-        println!("{}", row(name, ours, copy, ours[0] / copy[0], target));
+        println!("{}", row(name, ours, copy, ours[0] / copy[0], Some(target)));
     }
 }
 

@@ -9,7 +9,7 @@ use phyz_em::cpml::CpmlConfig;
 
 pub struct Timed {
     pub name: &'static str,
-    pub target: f64,
+    pub target: Option<f64>,
     pub sizes: [usize; 3],
     pub spacings: [f64; 4],
     pub pole_slots: usize,
@@ -23,7 +23,7 @@ pub struct Timed {
 }
 
 const THICKNESS: usize = 8;
-const ROUNDS: usize = 7;
+const ROUNDS: usize = 8;
 
 pub fn all() -> Vec<Timed> {
     let cube = [64, 64, 64];
@@ -48,16 +48,35 @@ pub fn all() -> Vec<Timed> {
         timed("128x128x64 layer on all axes", 2.5, wide, 3, |t| {
             vec![t.layer([true; 3])]
         }),
-        timed("4x64x64 periodic in x, layer on z", 1.2, short, 150, |t| {
+        timed("4x64x64 periodic in x, layer on z", 1.6, short, 150, |t| {
             let periodic = Call::SetPeriodic([true, false, false]);
             vec![periodic, t.layer([false, false, true])]
         }),
     ]
 }
 
+/// The studies whose steps are taken one by one too. Of the shortest and the largest no target is set.
+pub fn single() -> Vec<Timed> {
+    vec![
+        timed(
+            "1x1x512 periodic, layer on z, Debye, slab",
+            1.2,
+            [1, 1, 512],
+            4000,
+            |t| t.sheet(),
+        ),
+        timed("1x1x64 the same kind", None, [1, 1, 64], 4000, |t| {
+            t.sheet()
+        }),
+        timed("64x64x64 the same kind", None, [64, 64, 64], 12, |t| {
+            t.sheet()
+        }),
+    ]
+}
+
 fn timed(
     name: &'static str,
-    target: f64,
+    target: impl Into<Option<f64>>,
     sizes: [usize; 3],
     steps: usize,
     calls: impl Fn(&Timed) -> Vec<Call>,
@@ -66,7 +85,7 @@ fn timed(
     let limit = engine::cichowiej_max_stable_dt(engine::cichowiej_c0(), dx, dy, dz, 1.0);
     let mut study = Timed {
         name,
-        target,
+        target: target.into(),
         sizes,
         spacings: [dx, dy, dz, 0.9 * limit],
         pole_slots: 1,

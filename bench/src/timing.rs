@@ -1,6 +1,6 @@
 //! Rounds of both engines in turn, and a line for each study.
 
-use crate::clock::{self, best_and_median, seconds};
+use crate::clock::{self, best_and_median, by_turns};
 use crate::studies::Timed;
 use compare::difference::first_difference;
 use compare::engine::Study;
@@ -13,19 +13,51 @@ pub fn row(study: &Timed) -> String {
     for round in 0..study.rounds {
         refill(study, &mut ours, &mut theirs);
         let samples = samples(round * study.steps, study.steps);
-        our_times.push(seconds(|| assert_eq!(ours.run(&samples), 0)));
-        their_times.push(seconds(|| theirs.run(&samples)));
+        let our_run = || assert_eq!(ours.run(&samples), 0);
+        let [our_time, their_time] = by_turns(round, our_run, || theirs.run(&samples));
+        our_times.push(our_time);
+        their_times.push(their_time);
         assert!(!has_subnormals(&ours), "{}", study.name);
     }
     theirs.read();
     if let Some(difference) = first_difference(&theirs.expected, &ours) {
         panic!("{}: {difference}", study.name);
     }
-    let cells: usize = study.sizes.iter().product();
-    let each = 1e9 / (cells * study.steps) as f64;
+    let each = nanoseconds(study);
     let ours = best_and_median(our_times, each);
     let theirs = best_and_median(their_times, each);
     clock::row(study.name, ours, theirs, theirs[0] / ours[0], study.target)
+}
+
+/// Times steps taken one by one beside as many in a run; both must come to the same numbers.
+pub fn single_row(study: &Timed) -> String {
+    let (mut single, _) = set_up(study);
+    let mut run = single.clone();
+    let (mut single_times, mut run_times) = (Vec::new(), Vec::new());
+    for round in 0..study.rounds {
+        for call in &study.fields {
+            single.apply(call);
+            run.apply(call);
+        }
+        let samples = samples(round * study.steps, study.steps);
+        let one_by_one = || samples.iter().for_each(|x| assert_eq!(single.step(*x), 0));
+        let in_a_run = || assert_eq!(run.run(&samples), 0);
+        let [single_time, run_time] = by_turns(round, one_by_one, in_a_run);
+        single_times.push(single_time);
+        run_times.push(run_time);
+        assert!(!has_subnormals(&run), "{}", study.name);
+    }
+    assert_eq!(first_difference(&run, &single), None, "{}", study.name);
+    let each = nanoseconds(study);
+    let single = best_and_median(single_times, each);
+    let run = best_and_median(run_times, each);
+    clock::row(study.name, single, run, single[0] / run[0], study.target)
+}
+
+/// Nanoseconds for a cell and step, in a second that a round takes.
+fn nanoseconds(study: &Timed) -> f64 {
+    let cells: usize = study.sizes.iter().product();
+    1e9 / (cells * study.steps) as f64
 }
 
 fn set_up(study: &Timed) -> (Study, Theirs) {

@@ -1,4 +1,4 @@
-//! Links the engine's static library, and passes on whether the original was found.
+//! Links the engine's static library, and passes on whether and where the original was found.
 
 use std::env;
 use std::path::PathBuf;
@@ -20,4 +20,6 @@ fn main() {
     if env::var("DEP_PHYZ_EM_FOUND").is_ok() {
         println!("cargo::rustc-cfg=original");
     }
+    let original = env::var("DEP_PHYZ_EM_FOLDER").unwrap();
+    println!("cargo::rustc-env=ORIGINAL={original}");
 }

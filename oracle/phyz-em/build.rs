@@ -16,6 +16,7 @@ fn main() {
     println!("cargo::rustc-check-cfg=cfg(original)");
     let folder = source_folder();
     println!("cargo::rerun-if-changed={}", folder.display());
+    println!("cargo::metadata=folder={}", folder.display());
     let files = rust_files(&folder);
     if files.is_empty() {
         println!(

@@ -1,44 +1,26 @@
 -- A call on the record of a block, from its parts. Assumes nothing.
-use Prim.Native.Nat.{ℕ, zero, suc, _≤_}
+use Prim.Native.Nat.{ℕ, zero, suc}
 use native.Mathlib.Omega.{arith}
 use mathlib.Core.Path.{_≡_, refl, sym, ap, _∙_}
-use mathlib.Core.Bool.{Bool, true, false, _&&_}
-use mathlib.Core.List.{List, [], _∷_}
-use lib.Dec.{eqb}
+use mathlib.Core.Bool.{Bool, true, false}
+use mathlib.Core.List.{List}
 use lib.ListN.{length}
-use borrow.Author.Tests.{eqb-true, eq-eqb, ne-eqb}
-use Rattle.codec.specs.Bytes.{nums}
+use borrow.Author.Tests.{eq-eqb, ne-eqb}
 use Rattle.root.specs.declared.Spacings.{Spacings}
 use Rattle.dispersion.specs.declared.DispersiveMaterial.{DispersiveMaterial}
 use Rattle.grid.specs.declared.Record.{Record}
-use Rattle.grid.specs.Fault.{badStudy, first, allBelow, faultOf}
+use Rattle.grid.specs.Fault.{badStudy, faultOf}
 use Rattle.grid.specs.Stores.{Stores, Outcome, outcome, settle, orElse, lentFault, lengthsOf, storeLengths, sameLengths, faultLent, faultWith}
 use Rattle.grid.proofs.Settled.{turned-down}
-use Rattle.grid.proofs.Tests.{and-left, first-none, or-none, or-stays}
+use Rattle.grid.proofs.Tests.{or-none, or-stays}
 use Rattle.opening.specs.Opening.{openRecord, openStores, openCall}
 use Rattle.opening.specs.Layer.{Layer}
 use Rattle.materials.specs.Materials.{addFault, addCall}
 use Rattle.cpml.specs.Absorber.{Absorbed, absorbed}
-use Rattle.heads.specs.Numbers.{ghFine, mlWidths, mlFine}
-use Rattle.block.specs.Block.{blockLength, blockFine, blockRecord, blockOf, headOf, entryFine}
+use Rattle.block.specs.Block.{blockLength, blockFine, blockRecord}
 use Rattle.format.specs.Rewind.{readRecord, readStores, bytesFault, rewindFault, rewindCall}
-use Rattle.calls.specs.Blocks.{sent, blockAfter, passed, onBlock, told, readBlock, lentBlock, openOnBlock, rewindOnBlock, answered, answering, materialFault, materialOf, addBytesFault, addBytesCall, axisBits, Named, named, naming}
-
--- ---- the block
-pub block-long : (b : List ℕ) → blockFine b ≡ true → length b ≡ blockLength
-unfolding blockFine
-block-long b e =
-    let long = eqb (length b) blockLength in
-    let head = ghFine (headOf b) in
-    eqb-true (length b) blockLength (and-left long head (and-left (long && head) (allBelow (entryFine b) 16) e))
-
-pub kept-new : (n : ℕ) (r : Record) (b : List ℕ) {b' : List ℕ} → n ≡ 0 → b' ≡ blockOf r → b' ≡ blockAfter n r b
-unfolding blockAfter
-kept-new n r b z e = rw z e
-
-pub kept-old : (n : ℕ) (r : Record) (b : List ℕ) → (n ≡ 0 → ⊥) → b ≡ blockAfter n r b
-unfolding blockAfter
-kept-old n r b z = rw (ne-eqb n 0 z)
+use Rattle.calls.proofs.Kept.{kept-old}
+use Rattle.calls.specs.Blocks.{sent, blockAfter, passed, onBlock, clockAfter, moved, clockOnBlock, told, readBlock, lentBlock, openOnBlock, rewindOnBlock, answered, answering, materialFault, materialOf, addBytesFault, addBytesCall, axisBits, Named, named, naming}
 
 -- ---- the call
 module _ {A : Type 0} (f : Record → Outcome A) (b : List ℕ) (kept : A) where
@@ -54,6 +36,15 @@ module _ {A : Type 0} (f : Record → Outcome A) (b : List ℕ) (kept : A) where
   well {b'} {r} {q} {n} {s} fine er eo eb =
       rw fine (ap (λ (x : List ℕ). sent n x s) eb ∙ ap (λ (o : Outcome A). passed o b) (eo ∙ ap f er))
 
+  pub clock-ill : blockFine b ≡ false → sent badStudy b kept ≡ clockOnBlock f b kept
+  unfolding clockOnBlock
+  clock-ill e = rw e
+
+  pub clock-well : {b' : List ℕ} {r q : Record} {n : ℕ} {s : A} → blockFine b ≡ true → r ≡ blockRecord b → outcome n q s ≡ f r → b' ≡ clockAfter n (q .clock) b → sent n b' s ≡ clockOnBlock f b kept
+  unfolding clockOnBlock
+  clock-well {b'} {r} {q} {n} {s} fine er eo eb =
+      rw fine (ap (λ (x : List ℕ). sent n x s) eb ∙ ap (λ (o : Outcome A). moved o b) (eo ∙ ap f er))
+
 -- ---- the call on a block lent to read
 module _ {A : Type 0} (f : Record → Outcome A) (b : List ℕ) (kept : A) where
   pub unread : {s : A} → blockFine b ≡ false → s ≡ kept → told badStudy s ≡ readBlock f b kept
@@ -65,25 +56,8 @@ module _ {A : Type 0} (f : Record → Outcome A) (b : List ℕ) (kept : A) where
   reads fine er eo = rw fine (ap (λ (o : Outcome A). told (o .refusal) (o .rest)) (eo ∙ ap f er))
 
 -- ---- room for an answer
-pub no-room : {A : Type 0} (l : List A) (v : A) → length l ≤ 0 → l ≡ answered v l
-no-room [] v h = refl
-no-room (x ∷ l) v h = absurd (omega arith)
-
 pub answering-of : {A : Type 0} {n : ℕ} {q : Record} {v : A} {o : Outcome A} (room : List A) {room' : List A} → outcome n q v ≡ o → room' ≡ answered v room → outcome n q room' ≡ answering o room
 answering-of {A} {n} {q} room eo ea = ap (λ (x : List A). outcome n q x) ea ∙ ap (λ (x : Outcome A). answering x room) eo
-
--- ---- a material's bytes
-pub material-long : (m : List ℕ) → materialFault m ≡ 0 → length m ≡ 125
-unfolding materialFault
-material-long m e = eqb-true (length m) 125 (first-none (eqb (length m) 125) 3 _ e .0)
-
-pub other-length : (m : List ℕ) → (length m ≡ 125 → ⊥) → 4 ≡ materialFault m
-unfolding materialFault
-other-length m h = rw (ne-eqb (length m) 125 h)
-
-pub right-length : (m : List ℕ) {t : Bool} {n : ℕ} → length m ≡ 125 → t ≡ mlFine (nums mlWidths m) → n ≡ first t 3 0 → n ≡ materialFault m
-unfolding materialFault
-right-length m h e q = rw (eq-eqb (length m) 125 h) (q ∙ ap (λ (t : Bool). first t 3 0) e)
 
 -- ---- a material added: f is the record's fault or the bytes', and the code went on or not
 module _ (m : List ℕ) (r : Record) {f own bytes : ℕ} (ef : f ≡ orElse own bytes) (eo : own ≡ faultOf r) (em : bytes ≡ materialFault m) where

@@ -16,21 +16,21 @@ use root::Spacings;
 pub extern "C" fn cichowiej_eps0() -> f64
     ensures { λ r. ⌜ r ≡ vacuum.eps0 ⌝ }
 {
-    root::EPS0
+    root::vacuum::eps0()
 }
 
 #[no_mangle]
 pub extern "C" fn cichowiej_mu0() -> f64
     ensures { λ r. ⌜ r ≡ vacuum.mu0 ⌝ }
 {
-    root::MU0
+    root::vacuum::mu0()
 }
 
 #[no_mangle]
 pub extern "C" fn cichowiej_c0() -> f64
     ensures { λ r. ⌜ r ≡ vacuum.c0 ⌝ }
 {
-    root::C0
+    root::vacuum::c0()
 }
 
 // ---- the square root and the Courant numbers
@@ -70,16 +70,16 @@ pub extern "C" fn cichowiej_is_stable(c0: f64, dx: f64, dy: f64, dz: f64, dt: f6
 #[no_mangle]
 pub extern "C" fn cichowiej_ade_coeffs(
     tag: u32,
-    x: f64,
-    y: f64,
-    z: f64,
+    first: f64,
+    second: f64,
+    third: f64,
     eps0: f64,
     dt: f64,
     out: &mut [f64],
 ) -> bool
-    ensures { λ r. ⌜ (r ≡ taken tag (now (out .entry))) × (now (out .exit) ≡ coeffsOr r (adeCoeffs eps0 dt (poleOf tag x y z)) (now (out .entry))) ⌝ }
+    ensures { λ r. ⌜ (r ≡ taken tag (now (out .entry))) × (now (out .exit) ≡ coeffsOr r (adeCoeffs eps0 dt (poleOf tag first second third)) (now (out .entry))) ⌝ }
 {
-    poles::put_coeffs(tag, x, y, z, eps0, dt, out)
+    poles::put_coeffs(tag, first, second, third, eps0, dt, out)
 }
 
 // ---- the lossy edge's conductivity

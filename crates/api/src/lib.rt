@@ -1,6 +1,5 @@
 // The engine's calls as C functions. include/cichowiej.h declares them.
 pub mod arithmetic;
-pub mod blocks;
 pub mod library;
 pub mod memory;
 pub mod on_block;

@@ -22,13 +22,13 @@ pub extern "C" fn cichowiej_save_length(b: &[u8], length: &mut [usize]) -> u32
 }
 
 #[no_mangle]
-pub extern "C" fn cichowiej_save(
+pub extern "C" fn cichowiej_save<'a>(
     b: &[u8],
     e: &[f64],
     h: &[f64],
     media: &[f64],
-    psi_e: &[f64],
-    psi_h: &[f64],
+    psi_e: &'a [f64],
+    psi_h: &'a [f64],
     tables: &[f64],
     poles: &[f64],
     aux: &[f64],

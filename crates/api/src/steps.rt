@@ -4,7 +4,7 @@ ghost use Rattle.root.specs.Constants.{eps0, mu0, c0};
 ghost use Rattle.grid.specs.Stores.{stores};
 ghost use Rattle.step.specs.Step.{stepCall};
 ghost use Rattle.run.specs.Run.{runCall};
-ghost use Rattle.calls.specs.Blocks.{sent, onBlock};
+ghost use Rattle.calls.specs.Blocks.{sent, clockOnBlock};
 ghost use Rattle.study.specs.History.{doing};
 ghost use Rattle.study.specs.World.{step, run};
 ghost use Rattle.study.specs.Calls.{Silently};
@@ -24,7 +24,7 @@ pub extern "C" fn cichowiej_step(
     aux: &mut [f64],
     ids: &[u32],
 ) -> u32
-    ensures { λ n. ⌜ sent n (now (b .exit)) (stores (now (e .exit)) (now (h .exit)) (now (media .entry)) (now («psi_e» .exit)) (now («psi_h» .exit)) (now (tables .entry)) (now (poles .exit)) (now (aux .exit)) (now (ids .entry))) ≡ onBlock (λ r. stepCall eps0 mu0 c0 r sample (stores (now (e .entry)) (now (h .entry)) (now (media .entry)) (now («psi_e» .entry)) (now («psi_h» .entry)) (now (tables .entry)) (now (poles .entry)) (now (aux .entry)) (now (ids .entry)))) (now (b .entry)) (stores (now (e .entry)) (now (h .entry)) (now (media .entry)) (now («psi_e» .entry)) (now («psi_h» .entry)) (now (tables .entry)) (now (poles .entry)) (now (aux .entry)) (now (ids .entry))) ⌝ }
+    ensures { λ n. ⌜ sent n (now (b .exit)) (stores (now (e .exit)) (now (h .exit)) (now (media .entry)) (now («psi_e» .exit)) (now («psi_h» .exit)) (now (tables .entry)) (now (poles .exit)) (now (aux .exit)) (now (ids .entry))) ≡ clockOnBlock (λ r. stepCall eps0 mu0 c0 r sample (stores (now (e .entry)) (now (h .entry)) (now (media .entry)) (now («psi_e» .entry)) (now («psi_h» .entry)) (now (tables .entry)) (now (poles .entry)) (now (aux .entry)) (now (ids .entry)))) (now (b .entry)) (stores (now (e .entry)) (now (h .entry)) (now (media .entry)) (now («psi_e» .entry)) (now («psi_h» .entry)) (now (tables .entry)) (now (poles .entry)) (now (aux .entry)) (now (ids .entry))) ⌝ }
     ensures honest { λ n. ⌜ Silently (now (b .entry)) (now (b .exit)) (λ s. s ≡ stores (now (e .entry)) (now (h .entry)) (now (media .entry)) (now («psi_e» .entry)) (now («psi_h» .entry)) (now (tables .entry)) (now (poles .entry)) (now (aux .entry)) (now (ids .entry))) (λ s. stores (now (e .exit)) (now (h .exit)) (now (media .entry)) (now («psi_e» .exit)) (now («psi_h» .exit)) (now (tables .entry)) (now (poles .exit)) (now (aux .exit)) (now (ids .entry))) (doing (step sample)) n ⌝ }
 {
     on_block::steps::step(
@@ -56,7 +56,7 @@ pub extern "C" fn cichowiej_run(
     aux: &mut [f64],
     ids: &[u32],
 ) -> u32
-    ensures { λ n. ⌜ sent n (now (b .exit)) (stores (now (e .exit)) (now (h .exit)) (now (media .entry)) (now («psi_e» .exit)) (now («psi_h» .exit)) (now (tables .entry)) (now (poles .exit)) (now (aux .exit)) (now (ids .entry))) ≡ onBlock (λ r. runCall eps0 mu0 c0 r (now (samples .entry)) (stores (now (e .entry)) (now (h .entry)) (now (media .entry)) (now («psi_e» .entry)) (now («psi_h» .entry)) (now (tables .entry)) (now (poles .entry)) (now (aux .entry)) (now (ids .entry)))) (now (b .entry)) (stores (now (e .entry)) (now (h .entry)) (now (media .entry)) (now («psi_e» .entry)) (now («psi_h» .entry)) (now (tables .entry)) (now (poles .entry)) (now (aux .entry)) (now (ids .entry))) ⌝ }
+    ensures { λ n. ⌜ sent n (now (b .exit)) (stores (now (e .exit)) (now (h .exit)) (now (media .entry)) (now («psi_e» .exit)) (now («psi_h» .exit)) (now (tables .entry)) (now (poles .exit)) (now (aux .exit)) (now (ids .entry))) ≡ clockOnBlock (λ r. runCall eps0 mu0 c0 r (now (samples .entry)) (stores (now (e .entry)) (now (h .entry)) (now (media .entry)) (now («psi_e» .entry)) (now («psi_h» .entry)) (now (tables .entry)) (now (poles .entry)) (now (aux .entry)) (now (ids .entry)))) (now (b .entry)) (stores (now (e .entry)) (now (h .entry)) (now (media .entry)) (now («psi_e» .entry)) (now («psi_h» .entry)) (now (tables .entry)) (now (poles .entry)) (now (aux .entry)) (now (ids .entry))) ⌝ }
     ensures honest { λ n. ⌜ Silently (now (b .entry)) (now (b .exit)) (λ s. s ≡ stores (now (e .entry)) (now (h .entry)) (now (media .entry)) (now («psi_e» .entry)) (now («psi_h» .entry)) (now (tables .entry)) (now (poles .entry)) (now (aux .entry)) (now (ids .entry))) (λ s. stores (now (e .exit)) (now (h .exit)) (now (media .entry)) (now («psi_e» .exit)) (now («psi_h» .exit)) (now (tables .entry)) (now (poles .exit)) (now (aux .exit)) (now (ids .entry))) (doing (run (now (samples .entry)))) n ⌝ }
 {
     on_block::steps::run(

@@ -1,4 +1,4 @@
--- A block that is found a record, read and written again, is the same bytes. Assumes nothing.
+-- Numbers that a save may have, read as a record or a material and written again, are the same numbers. Assumes nothing.
 use Prim.Native.Nat.{ℕ, zero, suc, _+_, _*_, _^_, _≤_, _<_}
 use native.Mathlib.Omega.{arith}
 use mathlib.Core.Path.{_≡_, refl, sym, ap, _∙_, subst}
@@ -25,7 +25,7 @@ use Rattle.grid.specs.declared.Region.{Region}
 use Rattle.grid.specs.Canon.{canonRegion}
 use Rattle.grid.specs.Fault.{beyond, allBelow}
 use Rattle.grid.proofs.Tests.{and-left, and-right}
-use Rattle.heads.specs.Numbers.{bits, flagNum, kindNum, kindOf, ghWidths, ghNums, flagsFine, cornersFine, ghFine, ghOf, slotNums, slotOf, slotFine, mlWidths, mlNums, mlFine, mlOf}
+use Rattle.heads.specs.Numbers.{bits, flagNum, kindNum, kindOf, ghWidths, ghNums, flagsFine, cornersFine, ghShaped, ghFine, ghOf, slotNums, slotOf, slotShaped, threeFine, mlWidths, mlNums, mlShaped, mlFine, mlOf}
 use Rattle.heads.proofs.Puts.{length-nums}
 use Rattle.heads.proofs.Whole.{gh-total, ml-total}
 use Rattle.block.specs.Block.{entryNums, entryBytes, blockOf, headOf, entryAt, counted, allZero, entryFine, blockFine, entryOf, blockRecord}
@@ -41,8 +41,8 @@ float-back : (n : ℕ) → n < 256 ^ 8 → fine n ≡ true → bits (ofBits bina
 float-back n h e = bits-back n h e
 
 -- ---- one place of a pole
-slot-zero : (t a b c : ℕ) (s : PoleSlot) → slotFine false t a b c ≡ true → slotNums false s ≡ t ∷ a ∷ b ∷ c ∷ []
-unfolding slotFine
+slot-zero : (t a b c : ℕ) (s : PoleSlot) → slotShaped false t a b c ≡ true → slotNums false s ≡ t ∷ a ∷ b ∷ c ∷ []
+unfolding slotShaped
 slot-zero t a b c s e =
     let three = and-left (eqb t 0 && eqb a 0 && eqb b 0) (eqb c 0) e in
     let two = and-left (eqb t 0 && eqb a 0) (eqb b 0) three in
@@ -56,18 +56,15 @@ module _ (a b c : ℕ) (fa : bits (ofBits binary64 a) ≡ a) (fb : bits (ofBits 
   slot-tag (suc (suc (suc zero))) p q e = rw (fa, fb, eqb-true c 0 e)
   slot-tag (suc (suc (suc (suc t)))) p q e = absurd (let z : ⊥ = omega arith in z)
 
-slot-again : (k : Bool) (t a b c : ℕ) → a < 256 ^ 8 → b < 256 ^ 8 → c < 256 ^ 8 → slotFine k t a b c ≡ true → slotNums k (slotOf t a b c) ≡ t ∷ a ∷ b ∷ c ∷ []
-unfolding slotFine
-slot-again false t a b c p q r e = slot-zero t a b c (slotOf t a b c) e
-slot-again true t a b c p q r e =
+slot-again : (k : Bool) (t a b c : ℕ) → a < 256 ^ 8 → b < 256 ^ 8 → c < 256 ^ 8 → slotShaped k t a b c ≡ true → threeFine a b c ≡ true → slotNums k (slotOf t a b c) ≡ t ∷ a ∷ b ∷ c ∷ []
+unfolding slotShaped
+slot-again false t a b c p q r e f = slot-zero t a b c (slotOf t a b c) e
+slot-again true t a b c p q r e f =
     let last = eqb t 1 || eqb c 0 in
-    let five = and-left (leb 1 t && leb t 3 && fine a && fine b && fine c) last e in
-    let four = and-left (leb 1 t && leb t 3 && fine a && fine b) (fine c) five in
-    let three = and-left (leb 1 t && leb t 3 && fine a) (fine b) four in
-    let two = and-left (leb 1 t && leb t 3) (fine a) three in
-    slot-tag a b c (float-back a p (and-right (leb 1 t && leb t 3) (fine a) three)) (float-back b q (and-right (leb 1 t && leb t 3 && fine a) (fine b) four))
-    (float-back c r (and-right (leb 1 t && leb t 3 && fine a && fine b) (fine c) five)) t (leb-true 1 t (and-left (leb 1 t) (leb t 3) two)) (leb-true t 3 (and-right (leb 1 t) (leb t 3) two))
-    (and-right (leb 1 t && leb t 3 && fine a && fine b && fine c) last e)
+    let two = and-left (leb 1 t && leb t 3) last e in
+    let both = and-left (fine a && fine b) (fine c) f in
+    slot-tag a b c (float-back a p (and-left (fine a) (fine b) both)) (float-back b q (and-right (fine a) (fine b) both)) (float-back c r (and-right (fine a && fine b) (fine c) f))
+    t (leb-true 1 t (and-left (leb 1 t) (leb t 3) two)) (leb-true t 3 (and-right (leb 1 t) (leb t 3) two)) (and-right (leb 1 t && leb t 3) last e)
 
 -- ---- one material
 twenty-again : (l : List ℕ) (x y z : ℕ) (a b c d : List ℕ) → length l ≡ 20 → x ≡ getD l 0 0 → y ≡ getD l 1 0 → z ≡ getD l 2 0 →
@@ -78,27 +75,34 @@ unfolding joined
 twenty-again l x y z a b c d e p q r i j k m = rw (p, q, r, i, j, k, m) (places l 20 e)
 
 pub material-again : (l : List ℕ) → length l ≡ 20 → T (fitAll mlWidths l) → mlFine l ≡ true → mlNums (mlOf l) ≡ l
-unfolding mlNums mlOf mlFine
+unfolding mlNums mlOf mlFine mlShaped
 material-again l e t f =
     let n : ℕ → ℕ = λ i. getD l i 0 in
-    let x = fine (n 0) in
-    let y = fine (n 1) in
-    let z = fine (n 2) in
-    let s0 = slotFine (ltb 0 (n 3)) (n 4) (n 5) (n 6) (n 7) in
-    let s1 = slotFine (ltb 1 (n 3)) (n 8) (n 9) (n 10) (n 11) in
-    let s2 = slotFine (ltb 2 (n 3)) (n 12) (n 13) (n 14) (n 15) in
-    let s3 = slotFine (ltb 3 (n 3)) (n 16) (n 17) (n 18) (n 19) in
-    let f6 = and-left (x && y && z && s0 && s1 && s2) s3 f in
-    let f5 = and-left (x && y && z && s0 && s1) s2 f6 in
-    let f4 = and-left (x && y && z && s0) s1 f5 in
-    let f3 = and-left (x && y && z) s0 f4 in
-    let f2 = and-left (x && y) z f3 in
+    let s0 = slotShaped (ltb 0 (n 3)) (n 4) (n 5) (n 6) (n 7) in
+    let s1 = slotShaped (ltb 1 (n 3)) (n 8) (n 9) (n 10) (n 11) in
+    let s2 = slotShaped (ltb 2 (n 3)) (n 12) (n 13) (n 14) (n 15) in
+    let s3 = slotShaped (ltb 3 (n 3)) (n 16) (n 17) (n 18) (n 19) in
+    let x0 = threeFine (n 0) (n 1) (n 2) in
+    let x1 = threeFine (n 5) (n 6) (n 7) in
+    let x2 = threeFine (n 9) (n 10) (n 11) in
+    let x3 = threeFine (n 13) (n 14) (n 15) in
+    let x4 = threeFine (n 17) (n 18) (n 19) in
+    let s = and-left (s0 && s1 && s2 && s3) (x0 && x1 && x2 && x3 && x4) f in
+    let x = and-right (s0 && s1 && s2 && s3) (x0 && x1 && x2 && x3 && x4) f in
+    let s012 = and-left (s0 && s1 && s2) s3 s in
+    let s01 = and-left (s0 && s1) s2 s012 in
+    let x0123 = and-left (x0 && x1 && x2 && x3) x4 x in
+    let x012 = and-left (x0 && x1 && x2) x3 x0123 in
+    let x01 = and-left (x0 && x1) x2 x012 in
+    let front = and-left x0 x1 x01 in
+    let both = and-left (fine (n 0) && fine (n 1)) (fine (n 2)) front in
     let w : (i : ℕ) → i < 20 → n i < 256 ^ getD mlWidths i 0 = λ i h. fit-at mlWidths l i t h in
-    twenty-again l _ _ _ _ _ _ _ e (float-back (n 0) (w 0 (omega arith)) (and-left x y f2)) (float-back (n 1) (w 1 (omega arith)) (and-right x y f2)) (float-back (n 2) (w 2 (omega arith)) (and-right (x && y) z f3))
-    (slot-again (ltb 0 (n 3)) (n 4) (n 5) (n 6) (n 7) (w 5 (omega arith)) (w 6 (omega arith)) (w 7 (omega arith)) (and-right (x && y && z) s0 f4))
-    (slot-again (ltb 1 (n 3)) (n 8) (n 9) (n 10) (n 11) (w 9 (omega arith)) (w 10 (omega arith)) (w 11 (omega arith)) (and-right (x && y && z && s0) s1 f5))
-    (slot-again (ltb 2 (n 3)) (n 12) (n 13) (n 14) (n 15) (w 13 (omega arith)) (w 14 (omega arith)) (w 15 (omega arith)) (and-right (x && y && z && s0 && s1) s2 f6))
-    (slot-again (ltb 3 (n 3)) (n 16) (n 17) (n 18) (n 19) (w 17 (omega arith)) (w 18 (omega arith)) (w 19 (omega arith)) (and-right (x && y && z && s0 && s1 && s2) s3 f))
+    twenty-again l _ _ _ _ _ _ _ e (float-back (n 0) (w 0 (omega arith)) (and-left (fine (n 0)) (fine (n 1)) both)) (float-back (n 1) (w 1 (omega arith)) (and-right (fine (n 0)) (fine (n 1)) both))
+    (float-back (n 2) (w 2 (omega arith)) (and-right (fine (n 0) && fine (n 1)) (fine (n 2)) front))
+    (slot-again (ltb 0 (n 3)) (n 4) (n 5) (n 6) (n 7) (w 5 (omega arith)) (w 6 (omega arith)) (w 7 (omega arith)) (and-left s0 s1 s01) (and-right x0 x1 x01))
+    (slot-again (ltb 1 (n 3)) (n 8) (n 9) (n 10) (n 11) (w 9 (omega arith)) (w 10 (omega arith)) (w 11 (omega arith)) (and-right s0 s1 s01) (and-right (x0 && x1) x2 x012))
+    (slot-again (ltb 2 (n 3)) (n 12) (n 13) (n 14) (n 15) (w 13 (omega arith)) (w 14 (omega arith)) (w 15 (omega arith)) (and-right (s0 && s1) s2 s012) (and-right (x0 && x1 && x2) x3 x0123))
+    (slot-again (ltb 3 (n 3)) (n 16) (n 17) (n 18) (n 19) (w 17 (omega arith)) (w 18 (omega arith)) (w 19 (omega arith)) (and-right (s0 && s1 && s2) s3 s) (and-right (x0 && x1 && x2 && x3) x4 x))
 
 -- ---- the record itself
 flag-again : (n : ℕ) → leb n 1 ≡ true → flagNum (eqb n 1) ≡ n
@@ -190,7 +194,7 @@ flags-of l t =
     }
 
 pub head-again : (l : List ℕ) (ms : List DispersiveMaterial) → length l ≡ 26 → T (fitAll ghWidths l) → ghFine l ≡ true → ghNums (ghOf l ms) ≡ l
-unfolding ghNums ghOf ghFine cornersFine
+unfolding ghNums ghOf ghFine ghShaped cornersFine
 head-again l ms e t f =
     let n : ℕ → ℕ = λ i. getD l i 0 in
     let floats = fine (n 20) && fine (n 21) && fine (n 22) && fine (n 23) && fine (n 24) in
@@ -200,70 +204,3 @@ head-again l ms e t f =
     gathered l _ _ _ e (seven-again (n 3) (n 4) (n 5) (n 6) (n 7) (n 8) (n 9) (k .f3) (k .f4) (k .f5) (k .f6) (k .f7) (k .f8) (k .f9))
     (region-again (n 13) (n 14) (n 15) (n 16) (n 17) (n 18) (n 19) (k .f13) (and-right (flagsFine l) (cornersFine l) two))
     (five-again (n 20) (n 21) (n 22) (n 23) (n 24) (w 20 (omega arith)) (w 21 (omega arith)) (w 22 (omega arith)) (w 23 (omega arith)) (w 24 (omega arith)) (and-right (flagsFine l && cornersFine l) floats f))
-
--- ---- the whole block
-zeros-are : (l : List ℕ) (n : ℕ) → length l ≡ n → allZero l ≡ true → replicate n 0 ≡ l
-unfolding every
-zeros-are [] zero e t = refl
-zeros-are [] (suc n) e t = absurd (let z : ⊥ = omega arith in z)
-zeros-are (x ∷ l) zero e t = absurd (let z : ⊥ = omega arith in z)
-zeros-are (x ∷ l) (suc n) e t = rw (eqb-true x 0 (and-left (eqb x 0) (allZero l) t), zeros-are l n (omega arith) (and-right (eqb x 0) (allZero l) t))
-
-module _ (b : List ℕ) (ok : blockFine b ≡ true) (small : (i : ℕ) → getD b i 0 < 256) where
-  long : length b ≡ 2073
-  long = block-long b ok
-
-  bytes : T (bytesFit b)
-  bytes = every-of (λ x. ltb x 256) b 0 (λ i _. lt→ltb (getD b i 0) 256 (small i))
-
-  head-good : ghFine (headOf b) ≡ true
-  unfolding blockFine
-  head-good = and-right (eqb (length b) 2073) (ghFine (headOf b)) (and-left (eqb (length b) 2073 && ghFine (headOf b)) (allBelow (entryFine b) 16) ok)
-
-  entry-good : (i : ℕ) → i < 16 → entryFine b i ≡ true
-  unfolding blockFine
-  entry-good i h = all-at (entryFine b) 16 i (and-right (eqb (length b) 2073 && ghFine (headOf b)) (allBelow (entryFine b) 16) ok) h
-
-  head-bytes : enc ghWidths (ghNums (blockRecord b)) ≡ take 73 b
-  unfolding blockRecord
-  head-bytes =
-      ap (enc ghWidths) (head-again (headOf b) (row 16 (entryOf b)) (length-nums ghWidths b) (nums-fit ghWidths b (omega (arith, gh-total, long)) bytes) head-good)
-      ∙ enc-nums ghWidths b (omega (arith, gh-total, long)) bytes
-      ∙ ap (λ (k : ℕ). take k b) gh-total
-
-  module _ (i : ℕ) (h : i < 16) where
-    abbrev rest : List ℕ
-    rest = drop (73 + 125 * i) b
-
-    room : total mlWidths ≤ length rest
-    room = omega (arith, ml-total, length-drop (73 + 125 * i) b, long, h)
-
-    rest-bytes : T (bytesFit rest)
-    rest-bytes = every-drop _ (73 + 125 * i) b bytes
-
-    entry-nums : entryNums (counted b i) (entryOf b i) ≡ entryAt b i
-    unfolding entryNums entryOf entryFine
-    entry-nums = go (counted b i) (entry-good i h)
-      where
-        go : (t : Bool) → cond t (mlFine (entryAt b i)) (allZero (entryAt b i)) ≡ true → cond t (mlNums (cond t (mlOf (entryAt b i)) vacuumMaterial)) (replicate 20 0) ≡ entryAt b i
-        go true f = material-again (entryAt b i) (length-nums mlWidths rest) (nums-fit mlWidths rest room rest-bytes) f
-        go false f = zeros-are (entryAt b i) 20 (length-nums mlWidths rest) f
-
-    entry-bytes : entryBytes (blockRecord b) i ≡ part (drop 73 b) (i * 125) 125
-    unfolding entryBytes blockRecord ghOf part
-    entry-bytes =
-        let place : 73 + 125 * i ≡ 73 + i * 125 = omega arith in
-        ap (λ (m : DispersiveMaterial). enc mlWidths (entryNums (counted b i) m)) (getD-row 16 (entryOf b) i beyond h)
-        ∙ ap (enc mlWidths) entry-nums
-        ∙ enc-nums mlWidths rest room rest-bytes
-        ∙ ap (λ (k : ℕ). take k rest) ml-total
-        ∙ ap (λ (k : ℕ). take 125 (drop k b)) place
-        ∙ sym (part-drop b 73 (i * 125) 125)
-
-  pub block-again : blockOf (blockRecord b) ≡ b
-  unfolding blockOf
-  block-again =
-      ap (λ (x : List ℕ). x ++ joined 16 (entryBytes (blockRecord b))) head-bytes
-      ∙ ap (λ (x : List ℕ). take 73 b ++ x)
-      (joined-same 16 (entryBytes (blockRecord b)) (λ i. part (drop 73 b) (i * 125) 125) entry-bytes ∙ parts-whole 16 125 (drop 73 b) (length-drop 73 b ∙ omega (arith, long)))
-      ∙ take-append-drop 73 b

@@ -6,10 +6,10 @@ use mathlib.Core.Bool.{Bool, true, false, cond}
 use mathlib.Core.List.{List, [], _∷_, _++_, map}
 use borrow.Author.Tests.{eq-eqb, ltb-true}
 use lib.Dec.{T, ltb}
-use lib.ListN.{length, getD, drop, replicate, length-append, take-append-drop, length-map, List·getD-map}
+use lib.ListN.{length, getD, take, drop, replicate, length-append, take-append-drop, length-map, List·getD-map}
 use lib.Seq.{drop-append-add}
 use Rattle.codec.specs.Lists.{part, every}
-use Rattle.codec.specs.Bytes.{enc, nums, fitAll}
+use Rattle.codec.specs.Bytes.{le, enc, nums, fitAll}
 use Rattle.codec.proofs.Row.{nums-enc}
 use Rattle.dispersion.specs.declared.DispersiveMaterial.{DispersiveMaterial}
 use Rattle.dispersion.specs.Material.{vacuumMaterial}
@@ -18,12 +18,12 @@ use Rattle.cells.proofs.Blocks.{part-block}
 use Rattle.grid.specs.declared.Record.{Record}
 use Rattle.grid.specs.Canon.{canonMaterial, canon}
 use Rattle.grid.specs.Fault.{beyond, allBelow, faultOf}
-use Rattle.heads.specs.Numbers.{ghWidths, ghNums, ghFine, ghOf, mlWidths, mlNums, mlFine, mlOf}
+use Rattle.heads.specs.Numbers.{ghWidths, ghNums, ghShaped, ghOf, mlWidths, mlNums, mlShaped, mlOf}
 use Rattle.block.specs.Block.{entryNums, entryBytes, blockOf, headOf, entryAt, allZero, entryFine, blockFine, entryOf, blockRecord}
 use Rattle.block.specs.Held.{Held}
 use Rattle.block.proofs.Turns.{bytes-long, block-parts}
-use Rattle.block.proofs.Entry.{keep-row, material-fit, material-fine, material-back}
-use Rattle.block.proofs.Head.{few-poles, head-fit, head-fine, head-back}
+use Rattle.block.proofs.Entry.{keep-row, material-fit, material-shaped, material-back}
+use Rattle.block.proofs.Head.{few-poles, head-fit, head-shaped, head-back}
 
 -- ---- numbers read from a part of a list
 nums-part : (ws ns l : List ℕ) (at m : ℕ) → T (fitAll ws ns) → part l at m ≡ enc ws ns → nums ws (drop at l) ≡ ns
@@ -78,15 +78,27 @@ module _ (r : Record) (ok : faultOf r ≡ 0) (h : Held r) where
       ∙ ap (nums mlWidths) (drop-append-add g m (i * 125))
       ∙ nums-part mlWidths (entryNums (inside i) (material i)) m (i * 125) 125 (entry-fit i l) (part-block 16 i 125 (entryBytes r) l (λ c _. bytes-long r c))
 
+  -- the bytes of an entry, where it stands in the block
+  part-is : (i : ℕ) → i < 16 → part b (73 + 125 * i) 125 ≡ entryBytes r i
+  unfolding blockOf part
+  part-is i l =
+      let g : List ℕ = enc ghWidths (ghNums r) in
+      let m : List ℕ = joined 16 (entryBytes r) in
+      let long : length g + i * 125 ≡ 73 + 125 * i = omega (arith, block-parts r .0) in
+      ap (λ (k : ℕ). take 125 (drop k (g ++ m))) (sym long)
+      ∙ ap (take 125) (drop-append-add g m (i * 125))
+      ∙ part-block 16 i 125 (entryBytes r) l (λ c _. bytes-long r c)
+
   entry-good : (i : ℕ) → i < 16 → entryFine b i ≡ true
-  unfolding entryFine entryNums every
+  unfolding entryFine entryNums every entryBytes enc le
   entry-good i l =
-      ap (λ (n : ℕ). cond (ltb i n) (mlFine (entryAt b i)) (allZero (entryAt b i))) count-is
-      ∙ ap (λ (e : List ℕ). cond (inside i) (mlFine e) (allZero e)) (entry-is i l)
+      ap (λ (n : ℕ). cond (ltb i n) (mlShaped (entryAt b i)) (allZero (part b (73 + 125 * i) 125))) count-is
+      ∙ ap (λ (e : List ℕ). cond (inside i) (mlShaped e) (allZero (part b (73 + 125 * i) 125))) (entry-is i l)
+      ∙ ap (λ (e : List ℕ). cond (inside i) (mlShaped (entryNums (inside i) (material i))) (allZero e)) (part-is i l)
       ∙ go (inside i)
     where
-      go : (t : Bool) → cond t (mlFine (cond t (mlNums (material i)) (replicate 20 0))) (allZero (cond t (mlNums (material i)) (replicate 20 0))) ≡ true
-      go true = material-fine (material i) (h .each i l)
+      go : (t : Bool) → cond t (mlShaped (entryNums t (material i))) (allZero (enc mlWidths (entryNums t (material i)))) ≡ true
+      go true = material-shaped (material i) (h .each i l)
       go false = refl
 
   long : length b ≡ 2073
@@ -95,7 +107,7 @@ module _ (r : Record) (ok : faultOf r ≡ 0) (h : Held r) where
 
   pub fine-block : blockFine (blockOf r) ≡ true
   unfolding blockFine
-  fine-block = rw (eq-eqb (length b) 2073 long, ap ghFine head-is ∙ head-fine r ok h, all-true (entryFine b) 16 entry-good)
+  fine-block = rw (eq-eqb (length b) 2073 long, ap ghShaped head-is ∙ head-shaped r ok h, all-true (entryFine b) 16 entry-good)
 
   entry-back : (i : ℕ) → i < 16 → entryOf b i ≡ cond (inside i) (getD (map canonMaterial (r .materials)) i vacuumMaterial) vacuumMaterial
   unfolding entryOf entryNums

@@ -23,7 +23,7 @@ use Rattle.cells.specs.Cells.{joined, row}
 use Rattle.cells.proofs.Blocks.{length-row}
 use Rattle.cells.proofs.Written.{getD-row}
 use Rattle.grid.specs.Canon.{keepFirst, canonMaterial}
-use Rattle.heads.specs.Numbers.{bits, mlWidths, slotNums, slotOf, slotFine, mlNums, mlFine, mlOf}
+use Rattle.heads.specs.Numbers.{bits, mlWidths, slotNums, slotOf, slotShaped, threeFine, mlNums, mlShaped, mlFine, mlOf}
 use Rattle.block.specs.Held.{held, poleHeld, MaterialHeld}
 
 -- ---- a list whose elements past the n-th are d
@@ -78,7 +78,8 @@ record Slot (counted : Bool) (s : PoleSlot) : Type 0 where
   c : ℕ
   are : slotNums counted s ≡ tag ∷ a ∷ b ∷ c ∷ []
   fit : T (fitAll slotWidths (tag ∷ a ∷ b ∷ c ∷ []))
-  good : slotFine counted tag a b c ≡ true
+  shaped : slotShaped counted tag a b c ≡ true
+  good : threeFine a b c ≡ true
   back : slotOf tag a b c ≡ cond counted s blankSlot
 
 zero-fine : fine 0 ≡ true
@@ -86,11 +87,11 @@ unfolding fine nanBits
 zero-fine = refl
 
 slot-blank : (s : PoleSlot) → Slot false s
-unfolding slotFine
-slot-blank s = record { tag = 0; a = 0; b = 0; c = 0; are = refl; fit = four-fit 0 0 0 0 (omega arith) (omega arith) (omega arith) (omega arith); good = refl; back = refl }
+unfolding slotShaped
+slot-blank s = record { tag = 0; a = 0; b = 0; c = 0; are = refl; fit = four-fit 0 0 0 0 (omega arith) (omega arith) (omega arith) (omega arith); shaped = refl; good = rw zero-fine; back = refl }
 
 slot-pole : (p : Pole) → T (poleHeld p) → Slot true (record { pole = p })
-unfolding slotFine
+unfolding slotShaped
 slot-pole (Lorentz d w g) t =
     let both = and-l (held d && held w) (held g) t in
     let fd = and-l (held d) (held w) both in
@@ -103,6 +104,7 @@ slot-pole (Lorentz d w g) t =
       c = bits g;
       are = refl;
       fit = four-fit 1 (bits d) (bits w) (bits g) (omega arith) (bits-small d fd) (bits-small w fw) (bits-small g fg);
+      shaped = refl;
       good = rw (bits-fine d fd, bits-fine w fw, bits-fine g fg);
       back = rw (ofBits-toBits binary64 d fd, ofBits-toBits binary64 w fw, ofBits-toBits binary64 g fg);
     }
@@ -116,6 +118,7 @@ slot-pole (Drude w g) t =
       c = 0;
       are = refl;
       fit = four-fit 2 (bits w) (bits g) 0 (omega arith) (bits-small w fw) (bits-small g fg) (omega arith);
+      shaped = refl;
       good = rw (bits-fine w fw, bits-fine g fg, zero-fine);
       back = rw (ofBits-toBits binary64 w fw, ofBits-toBits binary64 g fg);
     }
@@ -129,6 +132,7 @@ slot-pole (Debye d t') t =
       c = 0;
       are = refl;
       fit = four-fit 3 (bits d) (bits t') 0 (omega arith) (bits-small d fd) (bits-small t' ft) (omega arith);
+      shaped = refl;
       good = rw (bits-fine d fd, bits-fine t' ft, zero-fine);
       back = rw (ofBits-toBits binary64 d fd, ofBits-toBits binary64 t' ft);
     }
@@ -142,10 +146,14 @@ module _ (x y z n t a b c t' a' b' c' t'' a'' b'' c'' u v w o : ℕ) where
   abbrev twenty : List ℕ
   twenty = x ∷ y ∷ z ∷ n ∷ t ∷ a ∷ b ∷ c ∷ t' ∷ a' ∷ b' ∷ c' ∷ t'' ∷ a'' ∷ b'' ∷ c'' ∷ u ∷ v ∷ w ∷ o ∷ []
 
-  twenty-fine : fine x ≡ true → fine y ≡ true → fine z ≡ true → slotFine (ltb 0 n) t a b c ≡ true → slotFine (ltb 1 n) t' a' b' c' ≡ true →
-      slotFine (ltb 2 n) t'' a'' b'' c'' ≡ true → slotFine (ltb 3 n) u v w o ≡ true → mlFine twenty ≡ true
+  twenty-shaped : slotShaped (ltb 0 n) t a b c ≡ true → slotShaped (ltb 1 n) t' a' b' c' ≡ true → slotShaped (ltb 2 n) t'' a'' b'' c'' ≡ true → slotShaped (ltb 3 n) u v w o ≡ true →
+      mlShaped twenty ≡ true
+  unfolding mlShaped
+  twenty-shaped i j k l = rw (i, j, k, l)
+
+  twenty-fine : mlShaped twenty ≡ true → threeFine x y z ≡ true → threeFine a b c ≡ true → threeFine a' b' c' ≡ true → threeFine a'' b'' c'' ≡ true → threeFine v w o ≡ true → mlFine twenty ≡ true
   unfolding mlFine
-  twenty-fine p q r i j k l = rw (p, q, r, i, j, k, l)
+  twenty-fine p q i j k l = rw (p, q, i, j, k, l)
 
   twenty-of : (d e f : Float) (p : List PoleSlot) → ofBits binary64 x ≡ d → ofBits binary64 y ≡ e → ofBits binary64 z ≡ f →
       (slotOf t a b c ∷ slotOf t' a' b' c' ∷ slotOf t'' a'' b'' c'' ∷ slotOf u v w o ∷ []) ≡ p →
@@ -192,10 +200,14 @@ module _ (m : DispersiveMaterial) (h : MaterialHeld m) where
       (fit-append _ slotWidths _ (four-of p3)
       (fit-append _ slotWidths _ (four-of p2) (fit-append _ slotWidths _ (four-of p1) (fit-append _ slotWidths front (four-of p0) (front-fit k) (p0 .fit)) (p1 .fit)) (p2 .fit)) (p3 .fit))
 
+  pub material-shaped : mlShaped (mlNums m) ≡ true
+  material-shaped = ap mlShaped numbers-are ∙ twenty-shaped _ _ _ _ _ _ _ _ _ _ _ _ _ _ _ _ _ _ _ _ (p0 .shaped) (p1 .shaped) (p2 .shaped) (p3 .shaped)
+
   pub material-fine : mlFine (mlNums m) ≡ true
   material-fine =
       ap mlFine numbers-are
-      ∙ twenty-fine _ _ _ _ _ _ _ _ _ _ _ _ _ _ _ _ _ _ _ _ (bits-fine (m .«eps_inf») (h .eps)) (bits-fine (m .sigma) (h .loss)) (bits-fine (m .«mu_r») (h .mu)) (p0 .good) (p1 .good) (p2 .good) (p3 .good)
+      ∙ twenty-fine _ _ _ _ _ _ _ _ _ _ _ _ _ _ _ _ _ _ _ _ (sym (ap mlShaped numbers-are) ∙ material-shaped)
+      (rw (bits-fine (m .«eps_inf») (h .eps), bits-fine (m .sigma) (h .loss), bits-fine (m .«mu_r») (h .mu))) (p0 .good) (p1 .good) (p2 .good) (p3 .good)
 
   abbrev kept : ℕ → PoleSlot
   kept i = cond (ltb i (m .«pole_count»)) (getD (m .poles) i blankSlot) blankSlot

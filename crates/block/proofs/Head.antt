@@ -25,7 +25,7 @@ use Rattle.grid.specs.Fault.{isAbsent, cornersFit, regionFits, countsFit, poles
 use Rattle.grid.specs.Sound.{Sound}
 use Rattle.grid.proofs.Judging.{sound}
 use Rattle.grid.proofs.Tests.{and-left, and-right, first-none}
-use Rattle.heads.specs.Numbers.{bits, flagNum, kindNum, kindOf, ghWidths, flagNums, floatNums, ghNums, flagsFine, cornersFine, ghFine, ghOf}
+use Rattle.heads.specs.Numbers.{bits, flagNum, kindNum, kindOf, ghWidths, flagNums, floatNums, ghNums, flagsFine, cornersFine, ghShaped, ghFine, ghOf}
 use Rattle.block.specs.Held.{Held}
 use Rattle.block.proofs.Entry.{bits-small, fit-append}
 
@@ -202,12 +202,16 @@ module _ (r : Record) (ok : faultOf r ≡ 0) (h : Held r) where
   numbers-fine : (fine (bits (r .spacings .dx)) && fine (bits (r .spacings .dy)) && fine (bits (r .spacings .dz)) && fine (bits (r .spacings .dt)) && fine (bits (r .clock .time))) ≡ true
   numbers-fine = rw (bits-fine _ (h .x), bits-fine _ (h .y), bits-fine _ (h .z), bits-fine _ (h .t), bits-fine _ (h .time))
 
+  pub head-shaped : ghShaped (ghNums r) ≡ true
+  unfolding ghShaped
+  head-shaped = rw (flags-fine, places-fine)
+
   pub head-fine : ghFine (ghNums r) ≡ true
   unfolding ghFine ghNums
-  head-fine = go _ _ _ flags-fine places-fine numbers-fine
+  head-fine = go _ _ head-shaped numbers-fine
     where
-      go : (a b c : Bool) → a ≡ true → b ≡ true → c ≡ true → (a && b && c) ≡ true
-      go a b c p q t = rw (p, q, t)
+      go : (a b : Bool) → a ≡ true → b ≡ true → (a && b) ≡ true
+      go a b p q = rw (p, q)
 
   -- the record again, with the materials ms
   pub head-back : (ms : List DispersiveMaterial) → ms ≡ keepFirst (r .«material_count») vacuumMaterial (map canonMaterial (r .materials)) → ghOf (ghNums r) ms ≡ canon r

@@ -5,3 +5,4 @@ pub mod Head
 pub mod Back
 pub mod Decoded
 pub mod Again
+pub mod Clock

@@ -1,16 +1,17 @@
 -- The block as code judges, reads and writes it, entry by entry, over plain lists. Assumes nothing.
 use Prim.Native.Nat.{ℕ, _+_, _*_, _^_, _≤_, _<_}
-use native.Mathlib.Nat.{zero-add}
+use native.Mathlib.Nat.{eq-or-lt-of-le}
 use native.Mathlib.Numerals.{add-one}
 use native.Mathlib.Omega.{arith}
 use mathlib.Core.Path.{_≡_, refl, sym, ap, _∙_}
 use mathlib.Core.Bool.{Bool, true, false, cond, _&&_}
 use mathlib.Core.List.{List, _++_}
-use borrow.Author.Tests.{lt-ltb, le-ltb, eq-eqb, ne-eqb, eqb-true}
+use mathlib.Core.Logic.{_⊎_, inl, inr, ⊎-elim}
+use borrow.Author.Tests.{lt-ltb, le-ltb, ltb-true, ltb-false, eq-eqb, ne-eqb, eqb-true, eqb-false}
 use lib.Dec.{T, ltb, eqb, lt→ltb}
-use lib.ListN.{length, getD, drop, set, replicate, length-append, drop-of-length-le}
-use lib.Seq.{drop-cons}
-use Rattle.codec.specs.Lists.{put, every}
+use lib.ListN.{length, getD, drop, set, replicate, length-append, drop-of-length-le, getD-replicate}
+use lib.Seq.{drop-cons, getD-set-same, getD-set-other, ext-getD}
+use Rattle.codec.specs.Lists.{put, part, every}
 use Rattle.codec.specs.Bytes.{le, enc, nums, bytesFit}
 use Rattle.codec.proofs.Lists.{put-next, put-whole, every-of}
 use Rattle.codec.proofs.Row.{length-enc, nums-fit, fit-at}
@@ -18,29 +19,52 @@ use Rattle.dispersion.specs.declared.DispersiveMaterial.{DispersiveMaterial}
 use Rattle.dispersion.specs.Material.{vacuumMaterial}
 use Rattle.cells.specs.Cells.{joined, row}
 use Rattle.cells.proofs.Blocks.{length-joined, length-row}
-use Rattle.cells.proofs.Written.{joined-more, row-more}
+use Rattle.cells.proofs.Written.{joined-more, getD-row}
 use Rattle.grid.specs.declared.Record.{Record}
 use Rattle.grid.specs.Fault.{beyond, allBelow}
 use Rattle.grid.proofs.Tests.{and-left}
-use Rattle.heads.specs.Numbers.{ghWidths, ghNums, ghFine, mlWidths, mlNums, mlFine, mlOf}
+use Rattle.heads.specs.Numbers.{ghWidths, ghNums, ghShaped, mlWidths, mlNums, mlShaped, mlOf}
 use Rattle.heads.proofs.Whole.{gh-long, ml-long, gh-total, ml-total}
-use Rattle.block.specs.Block.{entryNums, entryBytes, blockOf, headOf, entryAt, allZero, entryFine, blockFine, entryOf}
+use Rattle.block.specs.Block.{entryNums, entryBytes, blockOf, headOf, entryAt, counted, allZero, entryFine, blockFine, entryOf}
 
--- ---- zeros, from the i-th number on
-module _ (l : List ℕ) (i : ℕ) (same : allZero (drop i l) ≡ allZero l) where
-  zero-at : i < length l → allZero (drop i l) ≡ (eqb (getD l i 0) 0 && allZero (drop (i + 1) l))
+-- ---- zeros: z is what the first i numbers came to
+and-assoc : (x y z : Bool) → ((x && y) && z) ≡ (x && (y && z))
+and-assoc true y z = refl
+and-assoc false y z = refl
+
+and-true : (x : Bool) → (x && true) ≡ x
+and-true true = refl
+and-true false = refl
+
+module _ (l : List ℕ) (i : ℕ) (z : Bool) (same : (z && allZero (drop i l)) ≡ allZero l) where
+  pub zeros-more : i < length l → (z && eqb (getD l i 0) 0 && allZero (drop (i + 1) l)) ≡ allZero l
   unfolding every
-  zero-at h = rw (add-one i, drop-cons l i 0 h)
+  zeros-more h = and-assoc z (eqb (getD l i 0) 0) (allZero (drop (i + 1) l)) ∙ ap (λ (t : Bool). z && t) (sym cut) ∙ same
+    where
+      cut : allZero (drop i l) ≡ (eqb (getD l i 0) 0 && allZero (drop (i + 1) l))
+      cut = rw (add-one i, drop-cons l i 0 h)
 
-  pub zeros-more : i < length l → getD l i 0 ≡ 0 → allZero (drop (i + 1) l) ≡ allZero l
-  zeros-more h e = sym (sym same ∙ zero-at h ∙ rw (eq-eqb (getD l i 0) 0 e))
-
-  pub zeros-not : i < length l → (getD l i 0 ≡ 0 → ⊥) → false ≡ allZero l
-  zeros-not h e = sym (sym same ∙ zero-at h ∙ rw (ne-eqb (getD l i 0) 0 e))
-
-  pub zeros-all : length l ≤ i → true ≡ allZero l
+  pub zeros-all : length l ≤ i → z ≡ allZero l
   unfolding every
-  zeros-all h = sym (ap allZero (drop-of-length-le l h)) ∙ same
+  zeros-all h = sym (and-true z) ∙ ap (λ (x : List ℕ). z && allZero x) (sym (drop-of-length-le l h)) ∙ same
+
+eq-or-ne : (j i : ℕ) → (j ≡ i) ⊎ (j ≡ i → ⊥)
+eq-or-ne j i = go (eqb j i) refl
+  where
+    go : (t : Bool) → eqb j i ≡ t → (j ≡ i) ⊎ (j ≡ i → ⊥)
+    go true e = inl (eqb-true j i e)
+    go false e = inr (eqb-false j i e)
+
+next : (j i : ℕ) → (j ≡ i → ⊥) → ltb j i ≡ ltb j (i + 1)
+next j i p = go (ltb j i) refl
+  where
+    go : (t : Bool) → ltb j i ≡ t → t ≡ ltb j (i + 1)
+    go true e = let h = ltb-true j i e in sym (lt-ltb j (i + 1) (omega arith))
+    go false e = sym (le-ltb j (i + 1) (⊎-elim (λ same. absurd (p (sym same))) (λ l. omega (arith, l)) (eq-or-lt-of-le (ltb-false j i e))))
+
+twice : {A : Type 0} (t : Bool) (x d : A) → cond t (cond t x d) d ≡ cond t x d
+twice true x d = refl
+twice false x d = refl
 
 -- ---- one entry, judged and read; count is the block's own
 module _ (b : List ℕ) (i count : ℕ) (own : count ≡ getD (headOf b) 12 0) where
@@ -50,35 +74,31 @@ module _ (b : List ℕ) (i count : ℕ) (own : count ≡ getD (headOf b) 12 0) w
   outside : count ≤ i → ltb i (getD (headOf b) 12 0) ≡ false
   outside h = le-ltb i _ (omega arith)
 
-  pub fine-inside : (n : List ℕ) (r : Bool) → i < count → n ≡ entryAt b i → r ≡ mlFine n → r ≡ entryFine b i
+  pub fine-inside : (n : List ℕ) (r : Bool) → i < count → n ≡ entryAt b i → r ≡ mlShaped n → r ≡ entryFine b i
   unfolding entryFine
-  fine-inside n r h e q = q ∙ ap mlFine e ∙ sym (ap (λ (t : Bool). cond t (mlFine (entryAt b i)) (allZero (entryAt b i))) (inside h))
+  fine-inside n r h e q = q ∙ ap mlShaped e ∙ sym (ap (λ (t : Bool). cond t (mlShaped (entryAt b i)) (allZero (part b (73 + 125 * i) 125))) (inside h))
 
-  pub fine-outside : (n : List ℕ) (r : Bool) → count ≤ i → n ≡ entryAt b i → r ≡ allZero n → r ≡ entryFine b i
+  pub fine-outside : (n : List ℕ) (r : Bool) → count ≤ i → n ≡ part b (73 + 125 * i) 125 → r ≡ allZero n → r ≡ entryFine b i
   unfolding entryFine
-  fine-outside n r h e q = q ∙ ap allZero e ∙ sym (ap (λ (t : Bool). cond t (mlFine (entryAt b i)) (allZero (entryAt b i))) (outside h))
+  fine-outside n r h e q = q ∙ ap allZero e ∙ sym (ap (λ (t : Bool). cond t (mlShaped (entryAt b i)) (allZero (part b (73 + 125 * i) 125))) (outside h))
 
   pub read-inside : (n : List ℕ) (m : DispersiveMaterial) → i < count → n ≡ entryAt b i → m ≡ mlOf n → m ≡ entryOf b i
   unfolding entryOf
   read-inside n m h e q = q ∙ ap mlOf e ∙ sym (ap (λ (t : Bool). cond t (mlOf (entryAt b i)) vacuumMaterial) (inside h))
-
-  pub read-outside : (m : DispersiveMaterial) → count ≤ i → m ≡ vacuumMaterial → m ≡ entryOf b i
-  unfolding entryOf
-  read-outside m h q = q ∙ sym (ap (λ (t : Bool). cond t (mlOf (entryAt b i)) vacuumMaterial) (outside h))
 
 -- ---- the whole, judged
 pub block-not : (b : List ℕ) → (length b ≡ 2073 → ⊥) → false ≡ blockFine b
 unfolding blockFine
 block-not b h = rw (ne-eqb (length b) 2073 h)
 
-pub block-is : (b : List ℕ) (x y : Bool) → length b ≡ 2073 → x ≡ ghFine (headOf b) → y ≡ allBelow (entryFine b) 16 → (x && y) ≡ blockFine b
+pub block-is : (b : List ℕ) (x y : Bool) → length b ≡ 2073 → x ≡ ghShaped (headOf b) → y ≡ allBelow (entryFine b) 16 → (x && y) ≡ blockFine b
 unfolding blockFine
 block-is b x y h p q = rw (eq-eqb (length b) 2073 h, p, q)
 
 pub block-long : (b : List ℕ) → blockFine b ≡ true → length b ≡ 2073
 unfolding blockFine
 block-long b e =
-    eqb-true (length b) 2073 (and-left (eqb (length b) 2073) (ghFine (headOf b)) (and-left (eqb (length b) 2073 && ghFine (headOf b)) (allBelow (entryFine b) 16) e))
+    eqb-true (length b) 2073 (and-left (eqb (length b) 2073) (ghShaped (headOf b)) (and-left (eqb (length b) 2073 && ghShaped (headOf b)) (allBelow (entryFine b) 16) e))
 
 -- four bytes hold the steps
 pub steps-small : (b : List ℕ) → length b ≡ 2073 → ((i : ℕ) → getD b i 0 < 256) → getD (headOf b) 25 0 ≤ 4294967295
@@ -87,13 +107,39 @@ steps-small b e h =
     let small : getD (nums ghWidths b) 25 0 < 256 ^ 4 = fit-at ghWidths (nums ghWidths b) 25 (nums-fit ghWidths b (omega (arith, gh-total, e)) bytes) (omega arith) in
     omega arith
 
--- ---- the materials, read one after another
-module _ (s t : List DispersiveMaterial) (i : ℕ) (f : ℕ → DispersiveMaterial) (long : length s ≡ 16) (done : t ≡ put s 0 (row i f)) where
-  pub materials-more : (v : DispersiveMaterial) → i < 16 → v ≡ f i → set t i v ≡ put s 0 (row (i + 1) f)
-  materials-more v h e = ap (λ (k : ℕ). set t k v) (sym (zero-add i)) ∙ row-more s t 0 i v f (omega arith) done e
+-- ---- the materials: the first i of them read, the others vacuum
+pub all-of-them : (count i : ℕ) → 16 ≤ count → i < 16 → ltb i 16 ≡ ltb i count
+all-of-them count i h l = lt-ltb i 16 l ∙ sym (lt-ltb i count (omega arith))
 
-  pub materials-all : i ≡ 16 → t ≡ row 16 f
-  materials-all e = done ∙ ap (λ (k : ℕ). put s 0 (row k f)) e ∙ put-whole s (row 16 f) (length-row 16 f ∙ sym long)
+module _ (b : List ℕ) where
+  abbrev Read : ℕ → List DispersiveMaterial → Type 0
+  Read i t = (j : ℕ) → j < 16 → getD t j vacuumMaterial ≡ cond (ltb j i) (entryOf b j) vacuumMaterial
+
+  pub none-read : (v : DispersiveMaterial) → v ≡ vacuumMaterial → Read 0 (replicate 16 v)
+  none-read v e j h = getD-replicate 16 j v vacuumMaterial h ∙ e ∙ sym (ap (λ (x : Bool). cond x (entryOf b j) vacuumMaterial) (le-ltb j 0 (omega arith)))
+
+  pub one-read : (i : ℕ) (t : List DispersiveMaterial) (v : DispersiveMaterial) → length t ≡ 16 → i < 16 → Read i t → v ≡ entryOf b i → Read (i + 1) (set t i v)
+  one-read i t v long h read e j l = ⊎-elim (λ same. here same) (λ apart. there apart) (eq-or-ne j i)
+    where
+      here : j ≡ i → getD (set t i v) j vacuumMaterial ≡ cond (ltb j (i + 1)) (entryOf b j) vacuumMaterial
+      here p =
+          ap (λ (k : ℕ). getD (set t i v) k vacuumMaterial) p ∙ getD-set-same t i v vacuumMaterial (omega arith) ∙ e ∙ ap (entryOf b) (sym p)
+          ∙ sym (ap (λ (x : Bool). cond x (entryOf b j) vacuumMaterial) (lt-ltb j (i + 1) (omega arith)))
+
+      there : (j ≡ i → ⊥) → getD (set t i v) j vacuumMaterial ≡ cond (ltb j (i + 1)) (entryOf b j) vacuumMaterial
+      there p = getD-set-other t i j v vacuumMaterial p ∙ read j l ∙ ap (λ (x : Bool). cond x (entryOf b j) vacuumMaterial) (next j i p)
+
+  pub all-read : (k n count : ℕ) (t : List DispersiveMaterial) → k ≤ n → n ≤ k → count ≡ getD (headOf b) 12 0 → ((i : ℕ) → i < 16 → ltb i n ≡ ltb i count) → length t ≡ 16 → Read k t → t ≡ row 16 (entryOf b)
+  unfolding entryOf
+  all-read k n count t up down own same long read =
+      let e : k ≡ n = omega arith in
+      ext-getD vacuumMaterial t (row 16 (entryOf b)) (long ∙ sym (length-row 16 (entryOf b)))
+      (λ i h.
+      let l : i < 16 = omega (arith, h, long) in
+      read i l
+      ∙ ap (λ (x : Bool). cond x (entryOf b i) vacuumMaterial) (ap (ltb i) e ∙ same i l ∙ ap (ltb i) own)
+      ∙ twice (counted b i) (mlOf (entryAt b i)) vacuumMaterial
+      ∙ sym (getD-row 16 (entryOf b) i vacuumMaterial l))
 
 -- ---- written
 zero-bytes : replicate 125 0 ≡ enc mlWidths (replicate 20 0)

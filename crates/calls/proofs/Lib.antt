@@ -1,2 +1,3 @@
--- Laws that the functions' proofs cite.
+-- Laws that the functions' proofs, and the crates above, cite.
 pub mod Three
+pub mod Kept

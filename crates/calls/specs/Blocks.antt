@@ -7,6 +7,7 @@ use lib.ListN.{length, getD, set}
 use Rattle.codec.specs.Bytes.{nums}
 use Rattle.root.specs.declared.Spacings.{Spacings}
 use Rattle.dispersion.specs.declared.DispersiveMaterial.{DispersiveMaterial}
+use Rattle.grid.specs.declared.Clock.{Clock}
 use Rattle.grid.specs.declared.Record.{Record}
 use Rattle.grid.specs.Fault.{badStudy, first, faultOf}
 use Rattle.grid.specs.Stores.{Stores, Outcome, outcome, settle, orElse, badStore, lengthsOf, faultWith}
@@ -14,8 +15,8 @@ use Rattle.opening.specs.Opening.{openRecord, openStores}
 use Rattle.opening.specs.Layer.{Layer}
 use Rattle.cpml.specs.Absorber.{Absorbed}
 use Rattle.materials.specs.Materials.{addFault, added}
-use Rattle.heads.specs.Numbers.{mlWidths, mlFine, mlOf}
-use Rattle.block.specs.Block.{blockLength, blockFine, blockRecord, blockOf}
+use Rattle.heads.specs.Numbers.{mlWidths, mlShaped, mlOf}
+use Rattle.block.specs.Block.{blockLength, blockFine, blockRecord, blockOf, clockPut}
 use Rattle.format.specs.Rewind.{readRecord, readStores, rewindFault}
 
 -- the refusal, the block, and the rest: the stores that were lent, further answers
@@ -37,6 +38,16 @@ passed o b = sent (o .refusal) (blockAfter (o .refusal) (o .study) b) (o .rest)
 -- a block that is no record is refused as BadStudy, and the rest is then `kept`
 unfoldable pub onBlock : {A : Type 0} → (Record → Outcome A) → List ℕ → (kept : A) → Sent A
 onBlock f b kept = cond (blockFine b) (passed (f (blockRecord b)) b) (sent badStudy b kept)
+
+-- a call that moves the clock and nothing else of the record writes the clock's bytes alone
+unfoldable pub clockAfter : (refusal : ℕ) → Clock → List ℕ → List ℕ
+clockAfter n c b = cond (eqb n 0) (clockPut c b) b
+
+abbrev pub moved : {A : Type 0} → Outcome A → List ℕ → Sent A
+moved o b = sent (o .refusal) (clockAfter (o .refusal) (o .study .clock) b) (o .rest)
+
+unfoldable pub clockOnBlock : {A : Type 0} → (Record → Outcome A) → List ℕ → (kept : A) → Sent A
+clockOnBlock f b kept = cond (blockFine b) (moved (f (blockRecord b)) b) (sent badStudy b kept)
 
 -- a call that is lent the block to read alone: the refusal, and the rest
 pub record Told (A : Type 0) : Type 0 where
@@ -69,9 +80,9 @@ answered v room = set room 0 v
 abbrev pub answering : {A : Type 0} → Outcome A → List A → Outcome (List A)
 answering o room = outcome (o .refusal) (o .study) (answered (o .rest) room)
 
--- ---- a material as 125 bytes: 4 for another length, 3 for bytes that are no material
+-- ---- a material as 125 bytes, any NaN in them read as the NaN: 4 for another length, 3 for bytes that are no material
 unfoldable pub materialFault : List ℕ → ℕ
-materialFault m = first (eqb (length m) 125) badStore (first (mlFine (nums mlWidths m)) badStudy 0)
+materialFault m = first (eqb (length m) 125) badStore (first (mlShaped (nums mlWidths m)) badStudy 0)
 
 unfoldable pub materialOf : List ℕ → DispersiveMaterial
 materialOf m = mlOf (nums mlWidths m)

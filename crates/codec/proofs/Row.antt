@@ -18,7 +18,7 @@ abbrev pub numsAt : List ℕ → List ℕ → ℕ → ℕ → List ℕ
 numsAt [] l at k = []
 numsAt (w ∷ ws) l at k = unle (part l (at + k) w) ∷ numsAt ws l at (k + w)
 
-nums-at : (ws l : List ℕ) (at k : ℕ) → nums ws (drop (at + k) l) ≡ numsAt ws l at k
+pub nums-at : (ws l : List ℕ) (at k : ℕ) → nums ws (drop (at + k) l) ≡ numsAt ws l at k
 unfolding nums part
 nums-at [] l at k = refl
 nums-at (w ∷ ws) l at k =

@@ -2,7 +2,8 @@
 -- Definitions only.
 use Prim.Native.Nat.{ℕ, _*_}
 use mathlib.Core.Bool.{Bool, true, false, cond}
-use mathlib.Core.List.{List}
+use mathlib.Core.List.{List, [], _∷_}
+use lib.ListN.{getD}
 use lib.Ieee.{Float, eq}
 use Rattle.codec.specs.Lists.{part}
 use Rattle.root.specs.Rounded.{_⊕_, _⊗_, zeroF}
@@ -29,6 +30,40 @@ placeOf Hyz = at false 2
 placeOf Hyx = at false 3
 placeOf Hzx = at false 4
 placeOf Hzy = at false 5
+
+-- the letters of a memory's name: the component that it belongs to, and the axis of its derivative; 0 x, 1 y, 2 z
+abbrev pub componentOf : Psi → ℕ
+componentOf Exy = 0
+componentOf Exz = 0
+componentOf Eyz = 1
+componentOf Eyx = 1
+componentOf Ezx = 2
+componentOf Ezy = 2
+componentOf Hxy = 0
+componentOf Hxz = 0
+componentOf Hyz = 1
+componentOf Hyx = 1
+componentOf Hzx = 2
+componentOf Hzy = 2
+
+abbrev pub alongOf : Psi → ℕ
+alongOf Exy = 1
+alongOf Exz = 2
+alongOf Eyz = 2
+alongOf Eyx = 0
+alongOf Ezx = 0
+alongOf Ezy = 1
+alongOf Hxy = 1
+alongOf Hxz = 2
+alongOf Hyz = 2
+alongOf Hyx = 0
+alongOf Hzx = 0
+alongOf Hzy = 1
+
+-- the k-th memory of a store, as document 01 orders the six
+unfoldable pub inOrder : (electric : Bool) → ℕ → Psi
+inOrder electric k =
+    getD (cond electric (Exy ∷ Exz ∷ Eyz ∷ Eyx ∷ Ezx ∷ Ezy ∷ []) (Hxy ∷ Hxz ∷ Hyz ∷ Hyx ∷ Hzx ∷ Hzy ∷ [])) k Exy
 
 -- the N numbers of one memory
 unfoldable pub memoryOf : Psi → (psiE psiH : List Float) → ℕ → List Float

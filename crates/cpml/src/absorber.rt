@@ -1,14 +1,13 @@
 // The absorbing layer set on the axes that are thick enough for it.
 ghost use mathlib.Core.Path.{_≡_};
-ghost use mathlib.Core.Bool.{true, cond};
+ghost use mathlib.Core.Bool.{true};
 ghost use Prim.Native.Nat.{_+_, _*_, _≤_};
 ghost use lib.ListN.{length};
 ghost use Rattle.codec.specs.Lists.{put, part};
 ghost use Rattle.grid.specs.Edited.{withWalls};
-ghost use Rattle.opening.specs.Opening.{openTables};
 ghost use Rattle.grid.specs.Stores.{outcome};
 ghost use Rattle.opening.specs.Layer.{layer};
-ghost use Rattle.cpml.specs.Absorber.{axisActive, activeAxes, periodicLeft, layerTables, cpmlFault, absorbed, setCpmlCall};
+ghost use Rattle.cpml.specs.Absorber.{axisActive, activeAxes, periodicLeft, axisTables, layerTables, cpmlFault, absorbed, setCpmlCall};
 use grid::Record;
 use grid::stores;
 
@@ -48,17 +47,6 @@ fn periodic_left(periodic: [bool; 3], axes: [bool; 3]) -> [bool; 3]
     ]
 }
 
-// n handed-in numbers put where they stand in the tables, if the axis is active.
-fn copy_axis(tables: &mut [f64], given: &[f64], at: usize, n: usize, on: bool)
-    requires { ⌜ (at + n ≤ length (now tables)) × (at + n ≤ length (now given)) ⌝ }
-    ensures { λ _. ⌜ now (tables .exit) ≡ cond on (put (now (tables .entry)) at (part (now (given .entry)) at n)) (now (tables .entry)) ⌝ }
-{
-    if !on {
-        return;
-    }
-    copy(tables, given, at, n);
-}
-
 fn copy(tables: &mut [f64], given: &[f64], at: usize, n: usize)
     requires { ⌜ (at + n ≤ length (now tables)) × (at + n ≤ length (now given)) ⌝ }
     ensures { λ _. ⌜ now (tables .exit) ≡ put (now (tables .entry)) at (part (now (given .entry)) at n) ⌝ }
@@ -70,24 +58,29 @@ fn copy(tables: &mut [f64], given: &[f64], at: usize, n: usize)
     }
 }
 
-// The tables of the active axes, over tables as at opening.
-fn copy_tables(
-    tables: &mut [f64],
-    given: &[f64],
-    nx: usize,
-    ny: usize,
-    nz: usize,
-    active: [bool; 3],
-)
-    requires { ⌜ (nx ≤ 512) × (ny ≤ 512) × (nz ≤ 512) × (length (now given) ≡ 6 * (nx + ny + nz)) × (now tables ≡ openTables nx ny nz) ⌝ }
+// One axis's tables: those handed in if it is active, else those of opening. An active axis's part is written by the copy alone, so that a host
+// that hands in the lent tables themselves, which it must not, keeps them.
+fn put_axis(tables: &mut [f64], given: &[f64], at: usize, n: usize, on: bool)
+    requires { ⌜ (at + 6 * n ≤ length (now tables)) × (at + 6 * n ≤ length (now given)) × (n ≤ 512) ⌝ }
+    ensures { λ _. ⌜ now (tables .exit) ≡ put (now (tables .entry)) at (axisTables on n (part (now (given .entry)) at (6 * n))) ⌝ }
+{
+    if on {
+        copy(tables, given, at, 6 * n);
+    } else {
+        opening::inactive_axis(tables, at, n);
+    }
+}
+
+fn put_tables(tables: &mut [f64], given: &[f64], nx: usize, ny: usize, nz: usize, active: [bool; 3])
+    requires { ⌜ (nx ≤ 512) × (ny ≤ 512) × (nz ≤ 512) × (length (now tables) ≡ 6 * (nx + ny + nz)) × (length (now given) ≡ 6 * (nx + ny + nz)) ⌝ }
     ensures { λ _. ⌜ now (tables .exit) ≡ layerTables nx ny nz active (now (given .entry)) ⌝ }
 {
     let on_x = active[0];
     let on_y = active[1];
     let on_z = active[2];
-    copy_axis(tables, given, 0, 6 * nx, on_x);
-    copy_axis(tables, given, 6 * nx, 6 * ny, on_y);
-    copy_axis(tables, given, 6 * nx + 6 * ny, 6 * nz, on_z);
+    put_axis(tables, given, 0, nx, on_x);
+    put_axis(tables, given, 6 * nx, ny, on_y);
+    put_axis(tables, given, 6 * nx + 6 * ny, nz, on_z);
 }
 
 fn cpml_fault(r: Record, psi_e: usize, psi_h: usize, tables: usize, given: usize) -> u32
@@ -133,8 +126,9 @@ pub fn set_boundary_cpml(
         };
     }
     let active = active_axes(r, axes, thickness);
-    opening::layer::clear_layer(r.nx, r.ny, r.nz, psi_e, psi_h, tables);
-    copy_tables(tables, given, r.nx, r.ny, r.nz, active);
+    stores::clear(psi_e);
+    stores::clear(psi_h);
+    put_tables(tables, given, r.nx, r.ny, r.nz, active);
     let q = layer_on(r, axes, active);
     Absorbing {
         refusal: 0,

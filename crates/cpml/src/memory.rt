@@ -1,9 +1,9 @@
 // One memory looked up, and one number of it moved on.
 ghost use mathlib.Core.Path.{_≡_};
 ghost use mathlib.Core.Bool.{true, false};
-ghost use Prim.Native.Nat.{_*_};
+ghost use Prim.Native.Nat.{_*_, _<_};
 ghost use lib.ListN.{length};
-ghost use Rattle.cpml.specs.Memory.{placeOf, memoryOf, advanced};
+ghost use Rattle.cpml.specs.Memory.{placeOf, inOrder, memoryOf, advanced};
 use crate::Advanced;
 use crate::Place;
 use crate::Psi;
@@ -43,6 +43,19 @@ pub fn place(which: Psi) -> Place
         Psi::Hzx => magnetic(4),
         Psi::Hzy => magnetic(5),
     }
+}
+
+// The k-th memory of the electric or of the magnetic store.
+pub fn in_order(electric: bool, k: usize) -> Psi
+    requires { ⌜ k < 6 ⌝ }
+    ensures { λ which. ⌜ which ≡ inOrder electric k ⌝ }
+{
+    if electric {
+        let six = [Psi::Exy, Psi::Exz, Psi::Eyz, Psi::Eyx, Psi::Ezx, Psi::Ezy];
+        return six[k];
+    }
+    let six = [Psi::Hxy, Psi::Hxz, Psi::Hyz, Psi::Hyx, Psi::Hzx, Psi::Hzy];
+    six[k]
 }
 
 // The n numbers of one memory, a part of the electric or of the magnetic store.

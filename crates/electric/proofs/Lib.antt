@@ -7,3 +7,4 @@ pub mod Component
 pub mod Rowwise
 pub mod Polarized
 pub mod Steps
+pub mod Shorts

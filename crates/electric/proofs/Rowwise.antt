@@ -21,7 +21,7 @@ use Rattle.electric.specs.Swept.{Carried, madeOf, caAt, cbAt, onR, onS, 
 use Rattle.electric.proofs.Component.{Moved}
 
 -- a cell's new number hangs on the stores by its own numbers alone
-e-own : (A B C : Axis) (count : ℕ) (h tab m m₀ : List Float) (q i onB onC downB downC : ℕ) → getD m (A .mem + (q + i)) nan ≡ getD m₀ (A .mem + (q + i)) nan
+pub e-own : (A B C : Axis) (count : ℕ) (h tab m m₀ : List Float) (q i onB onC downB downC : ℕ) → getD m (A .mem + (q + i)) nan ≡ getD m₀ (A .mem + (q + i)) nan
     → getD m (A .mem + count + (q + i)) nan ≡ getD m₀ (A .mem + count + (q + i)) nan → (e e₀ : List Float) (dt dp : Float) {a a₀ b b₀ : Float} → a ≡ a₀ → b ≡ b₀
     → getD e (A .at + (q + i)) nan ≡ getD e₀ (A .at + (q + i)) nan
     → fieldE A B C count h tab m (q + i) onB onC downB downC a b dt dp e ≡ fieldE A B C count h tab m₀ (q + i) onB onC downB downC a₀ b₀ dt dp e₀

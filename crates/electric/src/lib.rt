@@ -1,5 +1,6 @@
 // The electric half step: rows along one axis, r, over the other two, s and t, and in each row the three components.
 pub mod row;
+pub mod short;
 
 ghost use mathlib.Core.Path.{_≡_};
 ghost use mathlib.Core.Bool.{cond};
@@ -17,6 +18,7 @@ ghost use Rattle.fdtd.specs.Turns.{Fit, Laid};
 ghost use Rattle.electric.specs.Row.{changeAt, dpOf, fieldE, firstE, secondE, Ready, Held};
 ghost use Rattle.electric.specs.Swept.{Swept, Carried};
 use fdtd::Axis;
+use fdtd::single;
 use fdtd::turns;
 use fdtd::turns::Run;
 use fdtd::turns::Spot;
@@ -258,11 +260,15 @@ fn step_along(
     requires { ⌜ g .count + g .count + g .count ≤ length (now media) ⌝ }
     ensures { λ _. ⌜ Swept eps0 w g (now (h .entry)) (now (media .entry)) (now (tab .entry)) (now (poles .entry)) (now (e .entry)) (now (mem .entry)) (g .t .n * g .s .n) (now (e .exit)) (now (mem .exit)) ⌝ }
 {
-    let mut scr = [0.0; 2560];
-    let start = start_of(g.r.wraps);
-    let end = end_of(g.r.n, g.r.wraps);
-    let run = turns::find_lull(tab, g.r, start, end);
-    sweep(e, mem, &mut scr, h, media, tab, poles, eps0, w, g, run);
+    if g.r.n < single::SHORT {
+        short::sweep_cells(e, mem, h, media, tab, poles, eps0, w, g);
+    } else {
+        let mut scr = [0.0; 2560];
+        let start = start_of(g.r.wraps);
+        let end = end_of(g.r.n, g.r.wraps);
+        let run = turns::find_lull(tab, g.r, start, end);
+        sweep(e, mem, &mut scr, h, media, tab, poles, eps0, w, g, run);
+    }
 }
 
 // E(n+1) from E(n), curl H, the change of polarization and the conductivity in every cell, and the layer's electric memories moved on with it.

@@ -21,7 +21,25 @@ pub struct Change {
     pub dt: f64,
 }
 
-// ca and cb of n cells, whose eps_r stand from m on and sigma from s on; eps/dt is taken once for both.
+// What E(n) and E(n+1) are multiplied by.
+pub struct Weights {
+    pub ca: f64,
+    pub cb: f64,
+}
+
+// eps/dt and sigma/2 are taken once for both.
+pub fn weights_of(eps0: f64, dt: f64, eps_r: f64, sigma: f64) -> Weights
+    ensures { λ r. ⌜ (r .ca ≡ ca eps0 dt «eps_r» sigma) × (r .cb ≡ cb eps0 dt «eps_r» sigma) ⌝ }
+{
+    let eps = eps0 * eps_r / dt;
+    let half = sigma / 2.0;
+    Weights {
+        ca: eps - half,
+        cb: eps + half,
+    }
+}
+
+// ca and cb of n cells, whose eps_r stand from m on and sigma from s on.
 pub fn factors(scr: &mut [f64], media: &[f64], m: usize, s: usize, n: usize, eps0: f64, dt: f64)
     requires { ⌜ (n ≤ 512) × (2048 + n ≤ length (now scr)) ⌝ }
     requires { ⌜ (m + n ≤ length (now media)) × (s + n ≤ length (now media)) ⌝ }
@@ -29,10 +47,9 @@ pub fn factors(scr: &mut [f64], media: &[f64], m: usize, s: usize, n: usize, eps
 {
     let mut i = 0usize;
     while i < n {
-        let eps = eps0 * rows::at(media, m, i) / dt;
-        let sigma = rows::at(media, s, i) / 2.0;
-        scr[1536 + i] = eps - sigma;
-        scr[2048 + i] = eps + sigma;
+        let f = weights_of(eps0, dt, rows::at(media, m, i), rows::at(media, s, i));
+        scr[1536 + i] = f.ca;
+        scr[2048 + i] = f.cb;
         i += 1usize;
     }
 }
@@ -78,7 +95,7 @@ fn curls(scr: &mut [f64], h: &[f64], n: usize, a: usize, z: usize, b: Side, c: S
     }
 }
 
-fn value(ca: f64, e: f64, curl: f64, term: f64, cb: f64) -> f64
+pub fn value(ca: f64, e: f64, curl: f64, term: f64, cb: f64) -> f64
     ensures { λ r. ⌜ r ≡ (ca ⊗ e ⊕ curl ⊖ term) ⊘ cb ⌝ }
 {
     (ca * e + curl - term) / cb

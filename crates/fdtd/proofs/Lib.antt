@@ -10,5 +10,7 @@ pub mod Stands
 pub mod Components
 pub mod Lines
 pub mod Singles
+pub mod Beside
 pub mod Fits
 pub mod Grids
+pub mod Looked

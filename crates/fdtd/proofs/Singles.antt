@@ -18,6 +18,7 @@ use Rattle.fdtd.specs.Yee.{memNext, told, joins, derivative, coefAt, cur
 use Rattle.fdtd.specs.Turns.{rowAt, Apart, Laid, Made, Part, Comp, Done}
 use Rattle.fdtd.specs.Begun.{withLayer, remembered, curlOf, curlBy, firstBy, secondBy, Lone, Both, Stored, Begun, Going, Doing}
 use Rattle.fdtd.proofs.Places.{row-more, row-apart, row-one}
+use Rattle.fdtd.proofs.Components.{b-own, c-own}
 use Rattle.fdtd.proofs.Lines.{apart-back}
 
 -- ---- one store
@@ -110,6 +111,17 @@ module _ (A B C : Axis) (count : ℕ) (field mem : List Float) (cell loB hiB loC
           → Both (firstBy A B C count field mem cell loB hiB loC hiC kb kc go) (secondBy A B C count field mem cell loB hiB loC hiC kb kc go) mem (A .mem + cell) (A .mem + count + cell) mem'
       memories-taken go g b = both-as b (first-taken go g) (second-taken go g)
 
+    first-go : (go : Bool) → go ≡ true → firstBy A B C count field mem cell loB hiB loC hiC kb kc true ≡ firstBy A B C count field mem cell loB hiB loC hiC kb kc go
+    first-go go g = rw g
+
+    second-go : (go : Bool) → go ≡ true → secondBy A B C count field mem cell loB hiB loC hiC kb kc true ≡ secondBy A B C count field mem cell loB hiB loC hiC kb kc go
+    second-go go g = rw g
+
+    pub memories-go : (go : Bool) {mem' : List Float} → go ≡ true
+        → Both (firstBy A B C count field mem cell loB hiB loC hiC kb kc true) (secondBy A B C count field mem cell loB hiB loC hiC kb kc true) mem (A .mem + cell) (A .mem + count + cell) mem'
+        → Both (firstBy A B C count field mem cell loB hiB loC hiC kb kc go) (secondBy A B C count field mem cell loB hiB loC hiC kb kc go) mem (A .mem + cell) (A .mem + count + cell) mem'
+    memories-go go g b = both-as b (first-go go g) (second-go go g)
+
     -- it does not
     first-left : (go : Bool) → go ≡ false → mb ≡ firstBy A B C count field mem cell loB hiB loC hiC kb kc go
     unfolding firstBy
@@ -129,13 +141,23 @@ module _ (A B C : Axis) (count : ℕ) (field mem : List Float) (cell loB hiB loC
     unfolding curlBy curl
     by-curl = refl
 
-    pub by-first : (go : Bool) → firstBy A B C count field mem cell loB hiB loC hiC (coefAt B tab onB) (coefAt C tab onC) go ≡ memoryB A B C count field tab mem cell onB onC loB hiB loC hiC go
+    by-first : (go : Bool) → firstBy A B C count field mem cell loB hiB loC hiC (coefAt B tab onB) (coefAt C tab onC) go ≡ memoryB A B C count field tab mem cell onB onC loB hiB loC hiC go
     unfolding firstBy memoryB
     by-first go = refl
 
-    pub by-second : (go : Bool) → secondBy A B C count field mem cell loB hiB loC hiC (coefAt B tab onB) (coefAt C tab onC) go ≡ memoryC A B C count field tab mem cell onB onC loB hiB loC hiC go
+    by-second : (go : Bool) → secondBy A B C count field mem cell loB hiB loC hiC (coefAt B tab onB) (coefAt C tab onC) go ≡ memoryC A B C count field tab mem cell onB onC loB hiB loC hiC go
     unfolding secondBy memoryC
     by-second go = refl
+
+-- a cell's memories hang on the store by its own alone
+pub own-memories : (A B C : Axis) (count : ℕ) (field tab m m₀ : List Float) (q i onB onC loB hiB loC hiC : ℕ) (go : Bool)
+    → getD m (A .mem + (q + i)) nan ≡ getD m₀ (A .mem + (q + i)) nan → getD m (A .mem + count + (q + i)) nan ≡ getD m₀ (A .mem + count + (q + i)) nan
+    → (firstBy A B C count field m (q + i) loB hiB loC hiC (coefAt B tab onB) (coefAt C tab onC) go ≡ memoryB A B C count field tab m₀ (q + i) onB onC loB hiB loC hiC go)
+    × (secondBy A B C count field m (q + i) loB hiB loC hiC (coefAt B tab onB) (coefAt C tab onC) go ≡ memoryC A B C count field tab m₀ (q + i) onB onC loB hiB loC hiC go)
+own-memories A B C count field tab m m₀ q i onB onC loB hiB loC hiC go b c = (
+  by-first A B C count field m (q + i) loB hiB loC hiC tab onB onC go ∙ b-own A B C count field tab m q i onB onC loB hiB loC hiC m₀ b c go,
+  by-second A B C count field m (q + i) loB hiB loC hiC tab onB onC go ∙ c-own A B C count field tab m q i onB onC loB hiB loC hiC m₀ b c go,
+)
 
 -- ---- one component of a store
 module _ (n s count : ℕ) (f : ℕ → ℕ → ℕ → Float) (lo : ℕ) (old : List Float) (j k : ℕ) where

@@ -8,9 +8,10 @@ use lib.Ieee.{Float, nan}
 use Rattle.root.specs.Rounded.{_⊖_}
 use Rattle.fdtd.specs.declared.Axis.{Axis}
 use Rattle.fdtd.specs.declared.Coef.{Coef}
+use Rattle.fdtd.specs.declared.single.Shared.{Shared}
 use Rattle.fdtd.specs.declared.turns.Turn.{Turn}
-use Rattle.fdtd.specs.Yee.{memNext, layered, derivative}
-use Rattle.fdtd.specs.Turns.{Made}
+use Rattle.fdtd.specs.Yee.{memNext, layered, derivative, coefAt}
+use Rattle.fdtd.specs.Turns.{rowAt, Made}
 
 -- the curl once a side's layer has joined it, if it is on, and the side's memory after
 abbrev pub withLayer : (second on : Bool) → Coef → (memory deriv curl : Float) → Float
@@ -55,6 +56,39 @@ pub record Both (v w : Float) (old : List Float) (p r : ℕ) (new : List Float) 
 -- a cell's number along A and its two memories
 abbrev pub Stored : (A : Axis) → (count cell : ℕ) → (u v w : Float) → (x m x' m' : List Float) → Type 0
 Stored A count cell u v w x m x' m' = Lone u x (A .at + cell) x' × Both v w m (A .mem + cell) (A .mem + count + cell) m'
+
+-- how a half step makes the number along A of a cell, and that number's two memories: by its neighbours nB and nC, whether it moves, and the layers' numbers
+pub record Rule : Type 0 where
+  pub field : (A B C : Axis) → (count : ℕ) → (x mem : List Float) → (cell nB nC : ℕ) → (moves : Bool) → (kb kc : Coef) → Float
+  pub first : (A B C : Axis) → (count : ℕ) → (mem : List Float) → (cell nB nC : ℕ) → (moves : Bool) → (kb kc : Coef) → Float
+  pub second : (A B C : Axis) → (count : ℕ) → (mem : List Float) → (cell nB nC : ℕ) → (moves : Bool) → (kb kc : Coef) → Float
+
+-- those of the number along r stored
+abbrev pub Moved : Rule → Turn → (cell ns nt : ℕ) → (moves : Bool) → (ks kt : Coef) → (x mem x' mem' : List Float) → Type 0
+Moved v g cell ns nt moves ks kt x mem x' mem' =
+    Stored (g .r) (g .count) cell (v .field (g .r) (g .s) (g .t) (g .count) x mem cell ns nt moves ks kt)
+    (v .first (g .r) (g .s) (g .t) (g .count) mem cell ns nt moves ks kt) (v .second (g .r) (g .s) (g .t) (g .count) mem cell ns nt moves ks kt) x mem x' mem'
+
+-- the number along r of a cell with the neighbours ns and nt: it, its memories and what its derivatives are taken of are there
+pub record Near (g : Turn) (source mem moved : List Float) (cell ns nt : ℕ) : Type 0 where
+  pub own : cell < g .count
+  pub ons : ns < g .count
+  pub ont : nt < g .count
+  pub es : g .s .at + g .count ≤ length source
+  pub et : g .t .at + g .count ≤ length source
+  pub hr : g .r .at + g .count ≤ length moved
+  pub mr : g .r .mem + g .count + g .count ≤ length mem
+
+-- what the cells of the row (s, t) share, beside the rows (bs, t) and (s, bt)
+abbrev pub sharedOf : Turn → (tab : List Float) → (s t bs bt : ℕ) → (gos got : Bool) → Shared
+sharedOf g tab s t bs bt gos got =
+    record { q = rowAt g s t; bs = rowAt g bs t; bt = rowAt g s bt; gos = gos; got = got; ks = coefAt (g .s) tab s; kt = coefAt (g .t) tab t }
+
+pub record Known (g : Turn) (tab : List Float) (s t bs bt : ℕ) (gos got : Bool) (w : Shared) : Type 0 where
+  pub is : w ≡ sharedOf g tab s t bs bt gos got
+  pub own : w .q + g .r .n ≤ g .count
+  pub ons : w .bs + g .r .n ≤ g .count
+  pub ont : w .bt + g .r .n ≤ g .count
 
 -- as Part of Turns.antt, with the row (j, k) under way: the rows before it and its first i cells hold f
 pub record Begun (n s count : ℕ) (f : ℕ → ℕ → ℕ → Float) (lo : ℕ) (old : List Float) (j k i : ℕ) (new : List Float) : Type 0 where

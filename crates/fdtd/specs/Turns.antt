@@ -31,6 +31,10 @@ turnZ r from = record { r = axisZ r from; s = axisX r from; t = axisY r from; dt
 abbrev pub turnFor : Record → (from : ℕ) → Turn
 turnFor r from = cond (eqb (r .nx) 1) (cond (eqb (r .ny) 1) (turnZ r from) (turnY r from)) (turnX r from)
 
+-- named from the next axis round
+abbrev pub round : Turn → Turn
+round g = record { r = g .s; s = g .t; t = g .r; dt = g .dt; count = g .count }
+
 -- the first cell of the row (s, t)
 abbrev pub rowAt : Turn → (s t : ℕ) → ℕ
 rowAt g s t = (s + t * g .s .n) * g .r .n

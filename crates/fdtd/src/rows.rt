@@ -6,10 +6,11 @@ ghost use Prim.Native.Nat.{_+_, _-_, _≤_, _<_};
 ghost use lib.ListN.{length, getD};
 ghost use lib.Ieee.{nan};
 ghost use Rattle.root.specs.Rounded.{_⊖_, _⊗_, zeroF, oneF};
-ghost use Rattle.fdtd.specs.Yee.{slope, memNext, told, joins, layered};
+ghost use Rattle.fdtd.specs.Yee.{slope, memNext, joins, layered};
 ghost use Rattle.fdtd.specs.Span.{Span, Trio, Put};
 ghost use Rattle.fdtd.specs.Rows.{kOf, layerOf, memOf, Calm};
 use crate::Coef;
+use cpml::memory;
 
 // A side on which a row's derivatives are taken. Its axis lies across the row, where the layer is k for each cell and the neighbours' numbers begin at
 // other; or along it, where the layer is taken from three tables of len numbers each, the first from tab on. From lo to hi the layer is quiet (c is 0).
@@ -31,28 +32,6 @@ pub fn slope_of(d: f64, lo: f64, hi: f64) -> f64
     ensures { λ r. ⌜ r ≡ slope d lo hi ⌝ }
 {
     (hi - lo) / d
-}
-
-// What a memory holds after.
-pub fn mem_next(k: Coef, memory: f64, deriv: f64) -> f64
-    ensures { λ r. ⌜ r ≡ memNext k memory deriv ⌝ }
-{
-    if k.c == 0.0 {
-        memory
-    } else {
-        k.b * memory + k.c * deriv
-    }
-}
-
-// What it tells.
-pub fn told_of(k: Coef, memory: f64, deriv: f64) -> f64
-    ensures { λ r. ⌜ r ≡ told k memory deriv ⌝ }
-{
-    if k.c == 0.0 {
-        0.0
-    } else {
-        k.b * memory + k.c * deriv
-    }
 }
 
 pub fn join(second: bool, curl: f64, t: f64, s: f64) -> f64
@@ -176,14 +155,9 @@ fn live(
     while i < z {
         let k = coef_at(tab, s, i);
         let d = at(scr, o, i);
-        let m = at(mem, p, i);
-        scr[1024 + i] = join(
-            second,
-            at(scr, 1024, i),
-            told_of(k, m, d),
-            stretch(k.kinv, d),
-        );
-        mem[p + i] = mem_next(k, m, d);
+        let moved = memory::advance(k.b, k.c, at(mem, p, i), d);
+        mem[p + i] = moved.memory;
+        scr[1024 + i] = join(second, at(scr, 1024, i), moved.answer, stretch(k.kinv, d));
         i += 1usize;
     }
 }

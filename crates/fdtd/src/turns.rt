@@ -8,7 +8,7 @@ ghost use Rattle.root.specs.Rounded.{zeroF};
 ghost use Rattle.grid.specs.Sound.{Sound};
 ghost use Rattle.grid.specs.Stores.{cells};
 ghost use Rattle.fdtd.specs.Axes.{axisX, axisY, axisZ, nextOf, hasNext};
-ghost use Rattle.fdtd.specs.Turns.{turnFor, acrossOf, alongOf, rowAt, AtSpot, Zeros, Lull};
+ghost use Rattle.fdtd.specs.Turns.{turnFor, round, acrossOf, alongOf, rowAt, AtSpot, Zeros, Lull};
 use crate::Axis;
 use crate::Coef;
 use crate::rows;
@@ -128,6 +128,22 @@ pub fn turn_of(r: Record, from: usize) -> Turn
             dt,
             count: n,
         }
+    }
+}
+
+// The same grid with its axes named from the next one round.
+pub fn turned(g: Turn) -> Turn
+    ensures { λ r. ⌜ r ≡ round g ⌝ }
+{
+    let r = g.s;
+    let s = g.t;
+    let t = g.r;
+    Turn {
+        r,
+        s,
+        t,
+        dt: g.dt,
+        count: g.count,
     }
 }
 

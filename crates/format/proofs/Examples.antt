@@ -8,7 +8,7 @@ use Rattle.codec.specs.Bytes.{le, unle, enc, nums, fine}
 use Rattle.codec.specs.Frame.{frameBytes, frameFault}
 use Rattle.grid.specs.declared.Record.{Record}
 use Rattle.grid.specs.Fault.{sideFits, sidesFit, sizeFits, spacingsFit, allBelow, countsFit, polesFit, layerFits, regionFits, studyFits, faultOf}
-use Rattle.heads.specs.Numbers.{ghWidths, flagsFine, cornersFine, ghFine, ghOf}
+use Rattle.heads.specs.Numbers.{ghWidths, flagsFine, cornersFine, ghShaped, ghFine, ghOf}
 use Rattle.format.specs.Records.{recordFault, recordsFault}
 use Rattle.format.specs.Save.{markGH, saveLength}
 use Rattle.format.specs.Rewind.{bare, headGood, table, tableOf, bytesFault}
@@ -31,7 +31,7 @@ first-frame = (refl, refl, refl, refl)
 
 -- P 5 is at fault in GH, before it is seen that there is no ML; P 4 is not
 pub cut-after-head : (bytesFault (gh 5) ≡ 15) × (bytesFault (gh 4) ≡ 13)
-unfolding bytesFault tableOf table recordsFault recordFault frameFault part enc le unle nums headGood bare ghFine flagsFine cornersFine fine nanBits ghOf faultOf sizeFits sidesFit sideFits spacingsFit ofBits studyFits countsFit polesFit allBelow layerFits regionFits
+unfolding bytesFault tableOf table recordsFault recordFault frameFault part enc le unle nums headGood bare ghFine ghShaped flagsFine cornersFine fine nanBits ghOf faultOf sizeFits sidesFit sideFits spacingsFit ofBits studyFits countsFit polesFit allBelow layerFits regionFits
 cut-after-head = (refl, refl)
 
 -- a study of one cell, no pole slot and one material: 1,388 bytes

@@ -2,3 +2,4 @@
 pub mod Flat
 pub mod Puts
 pub mod Whole
+pub mod Written

@@ -1,3 +1,2 @@
 -- What the contracts of heads cite.
 pub mod Numbers
-pub mod Widths

@@ -36,6 +36,29 @@ abbrev pub ghWidths : List ℕ
 ghWidths =
     2 ∷ 2 ∷ 2 ∷ 1 ∷ 1 ∷ 1 ∷ 1 ∷ 1 ∷ 1 ∷ 1 ∷ 1 ∷ 1 ∷ 1 ∷ 1 ∷ 2 ∷ 2 ∷ 2 ∷ 2 ∷ 2 ∷ 2 ∷ 8 ∷ 8 ∷ 8 ∷ 8 ∷ 8 ∷ 4 ∷ []
 
+-- its parts, as code reads and writes them: sizes, flags, counts and kind, corners, spacings and time
+abbrev pub sizeWidths : List ℕ
+sizeWidths = 2 ∷ 2 ∷ 2 ∷ []
+
+abbrev pub flagWidths : List ℕ
+flagWidths = 1 ∷ 1 ∷ 1 ∷ 1 ∷ 1 ∷ 1 ∷ 1 ∷ []
+
+abbrev pub countWidths : List ℕ
+countWidths = 1 ∷ 1 ∷ 1 ∷ 1 ∷ []
+
+abbrev pub cornerWidths : List ℕ
+cornerWidths = 2 ∷ 2 ∷ 2 ∷ 2 ∷ 2 ∷ 2 ∷ []
+
+abbrev pub floatWidths : List ℕ
+floatWidths = 8 ∷ 8 ∷ 8 ∷ 8 ∷ 8 ∷ []
+
+-- up to the corners, and from there on
+abbrev pub planWidths : List ℕ
+planWidths = sizeWidths ++ flagWidths ++ countWidths
+
+abbrev pub scaleWidths : List ℕ
+scaleWidths = cornerWidths ++ floatWidths ++ (4 ∷ [])
+
 abbrev pub flagNums : (periodic active : List Bool) → Bool → List ℕ
 flagNums p a on =
     flagNum (getD p 0 false) ∷ flagNum (getD p 1 false) ∷ flagNum (getD p 2 false)
@@ -56,6 +79,13 @@ ghNums r =
 -- ---- ML: eps_inf, sigma, mu_r, pole count, four places of a tag and three numbers in the Rust's field order
 abbrev pub mlWidths : List ℕ
 mlWidths = 8 ∷ 8 ∷ 8 ∷ 1 ∷ 1 ∷ 8 ∷ 8 ∷ 8 ∷ 1 ∷ 8 ∷ 8 ∷ 8 ∷ 1 ∷ 8 ∷ 8 ∷ 8 ∷ 1 ∷ 8 ∷ 8 ∷ 8 ∷ []
+
+-- its parts, as code reads and writes them: the numbers before the places, and one place
+abbrev pub frontWidths : List ℕ
+frontWidths = 8 ∷ 8 ∷ 8 ∷ 1 ∷ []
+
+abbrev pub slotWidths : List ℕ
+slotWidths = 1 ∷ 8 ∷ 8 ∷ 8 ∷ []
 
 abbrev pub poleNums : Pole → List ℕ
 poleNums (Lorentz d w g) = 1 ∷ bits d ∷ bits w ∷ bits g ∷ []
@@ -86,20 +116,31 @@ slotOf tag a b c =
     }
 
 -- a counted place holds one of the three kinds, and Drude and Debye no third number; any other is zero
-unfoldable pub slotFine : (counted : Bool) → (tag a b c : ℕ) → Bool
-slotFine counted tag a b c =
+unfoldable pub slotShaped : (counted : Bool) → (tag a b c : ℕ) → Bool
+slotShaped counted tag a b c =
     cond counted
-    (leb 1 tag && leb tag 3 && fine a && fine b && fine c && (eqb tag 1 || eqb c 0))
+    (leb 1 tag && leb tag 3 && (eqb tag 1 || eqb c 0))
     (eqb tag 0 && eqb a 0 && eqb b 0 && eqb c 0)
+
+-- numbers that are a material's, its floats any patterns
+unfoldable pub mlShaped : List ℕ → Bool
+mlShaped l =
+    let n : ℕ → ℕ = λ i. getD l i 0 in
+    slotShaped (ltb 0 (n 3)) (n 4) (n 5) (n 6) (n 7)
+    && slotShaped (ltb 1 (n 3)) (n 8) (n 9) (n 10) (n 11)
+    && slotShaped (ltb 2 (n 3)) (n 12) (n 13) (n 14) (n 15)
+    && slotShaped (ltb 3 (n 3)) (n 16) (n 17) (n 18) (n 19)
+
+-- as a save has them: no NaN but the one
+abbrev pub threeFine : (a b c : ℕ) → Bool
+threeFine a b c = fine a && fine b && fine c
 
 unfoldable pub mlFine : List ℕ → Bool
 mlFine l =
     let n : ℕ → ℕ = λ i. getD l i 0 in
-    fine (n 0) && fine (n 1) && fine (n 2)
-    && slotFine (ltb 0 (n 3)) (n 4) (n 5) (n 6) (n 7)
-    && slotFine (ltb 1 (n 3)) (n 8) (n 9) (n 10) (n 11)
-    && slotFine (ltb 2 (n 3)) (n 12) (n 13) (n 14) (n 15)
-    && slotFine (ltb 3 (n 3)) (n 16) (n 17) (n 18) (n 19)
+    mlShaped l
+    && (threeFine (n 0) (n 1) (n 2) && threeFine (n 5) (n 6) (n 7) && threeFine (n 9) (n 10) (n 11) && threeFine (n 13) (n 14) (n 15)
+    && threeFine (n 17) (n 18) (n 19))
 
 unfoldable pub mlOf : List ℕ → DispersiveMaterial
 mlOf l =
@@ -126,11 +167,15 @@ cornersFine l =
     let n : ℕ → ℕ = λ i. getD l i 0 in
     ltb 0 (n 13) || (eqb (n 14) 0 && eqb (n 15) 0 && eqb (n 16) 0 && eqb (n 17) 0 && eqb (n 18) 0 && eqb (n 19) 0)
 
--- and no other NaN
+-- numbers that are a record's, its floats any patterns
+unfoldable pub ghShaped : List ℕ → Bool
+ghShaped l = flagsFine l && cornersFine l
+
+-- as a save has them: no NaN but the one
 unfoldable pub ghFine : List ℕ → Bool
 ghFine l =
     let n : ℕ → ℕ = λ i. getD l i 0 in
-    flagsFine l && cornersFine l && (fine (n 20) && fine (n 21) && fine (n 22) && fine (n 23) && fine (n 24))
+    ghShaped l && (fine (n 20) && fine (n 21) && fine (n 22) && fine (n 23) && fine (n 24))
 
 unfoldable pub ghOf : List ℕ → List DispersiveMaterial → Record
 ghOf l materials =

@@ -1,12 +1,11 @@
 // The study record as bytes: numbers of fixed widths, one after another.
 pub mod payloads;
-pub mod rows;
 
 ghost use mathlib.Core.Path.{_≡_};
 ghost use Prim.Native.Nat.{_≤_};
 ghost use lib.ListN.{getD};
 ghost use Rattle.grid.specs.Canon.{canonRegion};
-ghost use Rattle.heads.specs.Numbers.{kindNum, kindOf, poleNums, slotNums, slotOf, slotFine, mlNums, mlFine, mlOf, flagNum, flagNums, floatNums, ghNums, flagsFine, cornersFine, ghFine, ghOf};
+ghost use Rattle.heads.specs.Numbers.{kindNum, kindOf, poleNums, slotNums, slotOf, slotShaped, threeFine, mlNums, mlShaped, mlFine, mlOf, flagNum, flagNums, floatNums, ghNums, flagsFine, cornersFine, ghShaped, ghFine, ghOf};
 use codec::floats;
 use dispersion::DispersiveMaterial;
 use dispersion::Pole;
@@ -18,7 +17,7 @@ use grid::RegionKind;
 use grid::fault;
 use root::Spacings;
 
-fn kind_num(k: RegionKind) -> u64
+pub fn kind_num(k: RegionKind) -> u64
     ensures { λ n. ⌜ n ≡ kindNum k ⌝ }
 {
     match k {
@@ -68,7 +67,7 @@ fn pole_nums(p: Pole) -> [u64; 4]
     }
 }
 
-fn slot_nums(counted: bool, s: PoleSlot) -> [u64; 4]
+pub fn slot_nums(counted: bool, s: PoleSlot) -> [u64; 4]
     ensures { λ l. ⌜ l ≡ slotNums counted s ⌝ }
 {
     if !counted {
@@ -111,63 +110,42 @@ fn slot_of(tag: u64, a: u64, b: u64, c: u64) -> PoleSlot
     }
 }
 
-fn slot_fine(counted: bool, tag: u64, a: u64, b: u64, c: u64) -> bool
-    ensures { λ f. ⌜ f ≡ slotFine counted tag a b c ⌝ }
+fn slot_shaped(counted: bool, tag: u64, a: u64, b: u64, c: u64) -> bool
+    ensures { λ f. ⌜ f ≡ slotShaped counted tag a b c ⌝ }
 {
     if !counted {
         return (tag == 0) & (a == 0) & (b == 0) & (c == 0);
     }
-    (1 <= tag)
-        & (tag <= 3)
-        & floats::is_fine(a)
-        & floats::is_fine(b)
-        & floats::is_fine(c)
-        & ((tag == 1) | (c == 0))
+    (1 <= tag) & (tag <= 3) & ((tag == 1) | (c == 0))
 }
 
-// A material as twenty numbers.
-pub fn ml_nums(m: DispersiveMaterial) -> [u64; 20]
-    ensures { λ l. ⌜ l ≡ mlNums m ⌝ }
+// Whether numbers are a material's, its floats any patterns.
+pub fn ml_shaped(n: [u64; 20]) -> bool
+    ensures { λ f. ⌜ f ≡ mlShaped n ⌝ }
 {
-    let n = m.pole_count;
-    let a = slot_nums(0 < n, m.poles[0]);
-    let b = slot_nums(1 < n, m.poles[1]);
-    let c = slot_nums(2 < n, m.poles[2]);
-    let d = slot_nums(3 < n, m.poles[3]);
-    [
-        floats::bits_of(m.eps_inf),
-        floats::bits_of(m.sigma),
-        floats::bits_of(m.mu_r),
-        n as u64,
-        a[0],
-        a[1],
-        a[2],
-        a[3],
-        b[0],
-        b[1],
-        b[2],
-        b[3],
-        c[0],
-        c[1],
-        c[2],
-        c[3],
-        d[0],
-        d[1],
-        d[2],
-        d[3],
-    ]
+    let k = n[3];
+    slot_shaped(0 < k, n[4], n[5], n[6], n[7])
+        & slot_shaped(1 < k, n[8], n[9], n[10], n[11])
+        & slot_shaped(2 < k, n[12], n[13], n[14], n[15])
+        & slot_shaped(3 < k, n[16], n[17], n[18], n[19])
 }
 
+fn three_fine(a: u64, b: u64, c: u64) -> bool
+    ensures { λ f. ⌜ f ≡ threeFine a b c ⌝ }
+{
+    floats::is_fine(a) & floats::is_fine(b) & floats::is_fine(c)
+}
+
+// Whether they are a material's as a save has it: no NaN but the one.
 pub fn ml_fine(n: [u64; 20]) -> bool
     ensures { λ f. ⌜ f ≡ mlFine n ⌝ }
 {
-    let k = n[3];
-    let numbers = floats::is_fine(n[0]) & floats::is_fine(n[1]) & floats::is_fine(n[2]);
-    numbers
-        & slot_fine(0 < k, n[4], n[5], n[6], n[7])
-        & slot_fine(1 < k, n[8], n[9], n[10], n[11])
-        & slot_fine(2 < k, n[12], n[13], n[14], n[15])
-        & slot_fine(3 < k, n[16], n[17], n[18], n[19])
+    let nans = three_fine(n[0], n[1], n[2])
+        & three_fine(n[5], n[6], n[7])
+        & three_fine(n[9], n[10], n[11])
+        & three_fine(n[13], n[14], n[15])
+        & three_fine(n[17], n[18], n[19]);
+    ml_shaped(n) & nans
 }
 
 pub fn ml_of(n: [u64; 20]) -> DispersiveMaterial
@@ -193,7 +171,7 @@ fn flag(b: bool) -> u64
     if b { 1 } else { 0 }
 }
 
-fn flag_nums(periodic: [bool; 3], active: [bool; 3], on: bool) -> [u64; 7]
+pub fn flag_nums(periodic: [bool; 3], active: [bool; 3], on: bool) -> [u64; 7]
     ensures { λ l. ⌜ l ≡ flagNums periodic active on ⌝ }
 {
     [
@@ -207,7 +185,7 @@ fn flag_nums(periodic: [bool; 3], active: [bool; 3], on: bool) -> [u64; 7]
     ]
 }
 
-fn float_nums(s: Spacings, time: f64) -> [u64; 5]
+pub fn float_nums(s: Spacings, time: f64) -> [u64; 5]
     ensures { λ l. ⌜ l ≡ floatNums s time ⌝ }
 {
     [
@@ -220,7 +198,7 @@ fn float_nums(s: Spacings, time: f64) -> [u64; 5]
 }
 
 // A region as a record keeps it: without corners where it is missing.
-fn kept_region(g: Region) -> Region
+pub fn kept_region(g: Region) -> Region
     ensures { λ k. ⌜ k ≡ canonRegion g ⌝ }
 {
     let kind = g.kind;
@@ -236,49 +214,6 @@ fn kept_region(g: Region) -> Region
         };
     }
     g
-}
-
-// The record without its materials as twenty-six numbers.
-pub fn gh_nums(r: Record) -> [u64; 26]
-    ensures { λ l. ⌜ l ≡ ghNums r ⌝ }
-{
-    let periodic = r.periodic;
-    let active = r.active;
-    let region = r.region;
-    let spacings = r.spacings;
-    let f = flag_nums(periodic, active, r.layer_on);
-    let g = kept_region(region);
-    let kind = g.kind;
-    let k = kind_num(kind);
-    let x = float_nums(spacings, r.clock.time);
-    [
-        r.nx as u64,
-        r.ny as u64,
-        r.nz as u64,
-        f[0],
-        f[1],
-        f[2],
-        f[3],
-        f[4],
-        f[5],
-        f[6],
-        r.built_count as u64,
-        r.pole_slots as u64,
-        r.material_count as u64,
-        k,
-        g.i0 as u64,
-        g.i1 as u64,
-        g.j0 as u64,
-        g.j1 as u64,
-        g.k0 as u64,
-        g.k1 as u64,
-        x[0],
-        x[1],
-        x[2],
-        x[3],
-        x[4],
-        r.clock.steps as u64,
-    ]
 }
 
 fn flags_fine(n: [u64; 26]) -> bool
@@ -301,6 +236,14 @@ fn corners_fine(n: [u64; 26]) -> bool
         | ((n[14] == 0) & (n[15] == 0) & (n[16] == 0) & (n[17] == 0) & (n[18] == 0) & (n[19] == 0))
 }
 
+// Whether numbers are a record's, its floats any patterns.
+pub fn gh_shaped(n: [u64; 26]) -> bool
+    ensures { λ f. ⌜ f ≡ ghShaped n ⌝ }
+{
+    flags_fine(n) & corners_fine(n)
+}
+
+// Whether they are a record's as a save has it: no NaN but the one.
 pub fn gh_fine(n: [u64; 26]) -> bool
     ensures { λ f. ⌜ f ≡ ghFine n ⌝ }
 {
@@ -308,7 +251,7 @@ pub fn gh_fine(n: [u64; 26]) -> bool
         & floats::is_fine(n[21])
         & floats::is_fine(n[22])
         & floats::is_fine(n[23]);
-    flags_fine(n) & corners_fine(n) & (spacings & floats::is_fine(n[24]))
+    gh_shaped(n) & (spacings & floats::is_fine(n[24]))
 }
 
 pub fn gh_of(n: [u64; 26], materials: [DispersiveMaterial; 16]) -> Record

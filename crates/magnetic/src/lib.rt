@@ -15,6 +15,7 @@ ghost use Rattle.fdtd.specs.Span.{Span, Two, Top};
 ghost use Rattle.fdtd.specs.Turns.{Fit, Laid};
 ghost use Rattle.magnetic.specs.Row.{fieldH, firstH, secondH, Ready};
 ghost use Rattle.magnetic.specs.Swept.{Swept, Carried};
+use fdtd::single;
 use fdtd::turns;
 use fdtd::turns::Run;
 use fdtd::turns::Spot;
@@ -194,9 +195,6 @@ fn reach(n: usize, wraps: bool) -> usize
     if wraps { n } else { n - 1 }
 }
 
-// Rows of fewer cells than this go cell by cell.
-const SHORT: usize = 16;
-
 // The whole half step in rows along r.
 fn step_along(
     h: &mut [f64],
@@ -212,7 +210,7 @@ fn step_along(
     requires { ⌜ g .count + g .count ≤ length (now media) ⌝ }
     ensures { λ _. ⌜ Swept mu0 g (now (e .entry)) (now (media .entry)) (now (tab .entry)) (now (h .entry)) (now (mem .entry)) (g .t .n * g .s .n) (now (h .exit)) (now (mem .exit)) ⌝ }
 {
-    if g.r.n < SHORT {
+    if g.r.n < single::SHORT {
         short::sweep_cells(h, mem, e, media, tab, mu0, g);
     } else {
         let mut scr = [0.0; 2048];

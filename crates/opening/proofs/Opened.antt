@@ -17,7 +17,7 @@ use Rattle.grid.specs.Canon.{keepFirst, canonMaterial, canonRegion, canon}
 use Rattle.opening.specs.Opening.{openRecord, openMedia, inactive, openTables, openStores}
 
 -- one part after another from the front
-front-next : (l : List Float) (n : ℕ) (vs ws : List Float) → length vs ≡ n → n + length ws ≤ length l → put (put l 0 vs) n ws ≡ put l 0 (vs ++ ws)
+pub front-next : (l : List Float) (n : ℕ) (vs ws : List Float) → length vs ≡ n → n + length ws ≤ length l → put (put l 0 vs) n ws ≡ put l 0 (vs ++ ws)
 front-next l n vs ws e h = ap (λ (k : ℕ). put (put l 0 vs) k ws) (sym (zero-add n)) ∙ put-next l 0 n vs ws e (omega arith)
 
 pub media-is : (l : List Float) (n : ℕ) → length l ≡ 3 * n → put (put l 0 (replicate (2 * n) oneF)) (2 * n) (zeros n) ≡ openMedia n

@@ -65,7 +65,7 @@ fn open_media(media: &mut [f64], n: usize)
 }
 
 // One axis's six tables with nothing absorbed.
-fn inactive_axis(tables: &mut [f64], at: usize, n: usize)
+pub fn inactive_axis(tables: &mut [f64], at: usize, n: usize)
     requires { ⌜ at + 6 * n ≤ length (now tables) ⌝ }
     ensures { λ _. ⌜ now (tables .exit) ≡ put (now (tables .entry)) at (inactive n) ⌝ }
 {

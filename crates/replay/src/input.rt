@@ -4,7 +4,7 @@ ghost use lib.ListN.{length};
 use codec::numbers::get_u32;
 use codec::stores;
 
-// The longest store: (6 * 4 + 3) * 32 numbers.
+// The longest store: the poles of 32 cells with 4 slots, (6 * 4 + 3) * 32 numbers.
 pub const LONGEST: usize = 864;
 
 // How many elements each store of a study has, and how many samples there are.

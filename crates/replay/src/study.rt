@@ -182,7 +182,9 @@ fn replayed(
         aux,
         ids,
     );
-    let q = o.study;
+    let clock = o.clock;
+    let mut q = r;
+    q.clock = clock;
     let fields = see_two(e, h);
     let layer = see_two(psi_e, psi_h);
     let rest = see_two(poles, aux);
@@ -221,17 +223,17 @@ fn play(
     )
 }
 
-// Whether each part fits its array: those of 32 cells, sides of up to 8, 4 pole slots, and 3 samples.
+// Whether each part fits its array: those of 64 cells, sides of up to 18 and 24 together, 864 numbers of poles, and 3 samples.
 fn fits(c: Counts) -> bool {
-    (c.e <= 96)
-        & (c.h <= 96)
-        & (c.media <= 96)
-        & (c.psi_e <= 192)
-        & (c.psi_h <= 192)
+    (c.e <= 192)
+        & (c.h <= 192)
+        & (c.media <= 192)
+        & (c.psi_e <= 384)
+        & (c.psi_h <= 384)
         & (c.tables <= 144)
         & (c.poles <= 864)
-        & (c.aux <= 112)
-        & (c.ids <= 32)
+        & (c.aux <= 132)
+        & (c.ids <= 64)
         & (c.samples <= 3)
 }
 
@@ -247,25 +249,25 @@ fn cut(n: usize, most: usize) -> usize
 
 // A study in arrays of its own.
 fn lend(c: Counts, r: Record) -> Outcome {
-    let mut e = [0.0; 96];
-    let mut h = [0.0; 96];
-    let mut media = [0.0; 96];
-    let mut psi_e = [0.0; 192];
-    let mut psi_h = [0.0; 192];
+    let mut e = [0.0; 192];
+    let mut h = [0.0; 192];
+    let mut media = [0.0; 192];
+    let mut psi_e = [0.0; 384];
+    let mut psi_h = [0.0; 384];
     let mut tables = [0.0; 144];
     let mut poles = [0.0; 864];
-    let mut aux = [0.0; 112];
-    let mut ids = [0u32; 32];
+    let mut aux = [0.0; 132];
+    let mut ids = [0u32; 64];
     let mut samples = [0.0; 3];
-    let ne = cut(c.e, 96);
-    let nh = cut(c.h, 96);
-    let nm = cut(c.media, 96);
-    let npe = cut(c.psi_e, 192);
-    let nph = cut(c.psi_h, 192);
+    let ne = cut(c.e, 192);
+    let nh = cut(c.h, 192);
+    let nm = cut(c.media, 192);
+    let npe = cut(c.psi_e, 384);
+    let nph = cut(c.psi_h, 384);
     let nt = cut(c.tables, 144);
     let np = cut(c.poles, 864);
-    let na = cut(c.aux, 112);
-    let ni = cut(c.ids, 32);
+    let na = cut(c.aux, 132);
+    let ni = cut(c.ids, 64);
     let ns = cut(c.samples, 3);
     play(
         r,

@@ -1,4 +1,6 @@
 // IEEE 754's squareRoot on f64 by whole numbers, the constants of vacuum, and the Courant numbers.
+pub mod vacuum;
+
 ghost use mathlib.Core.Path.{_≡_};
 ghost use Prim.Native.Nat.{_*_, _^_, _<_};
 ghost use lib.Dec.{T};
@@ -13,7 +15,7 @@ const LEAD: u64 = 4503599627370496;
 const PI: f64 = 3.141592653589793;
 
 // Vacuum permittivity (F/m) and permeability (H/m), and the speed of light (m/s) that they give:
-// specs/Constants.antt says which double each one is.
+// the contracts in vacuum.rt say which double each one is.
 pub const EPS0: f64 = 8.854187817e-12;
 
 pub const MU0: f64 = 4.0 * PI * 1e-7;

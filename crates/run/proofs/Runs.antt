@@ -2,9 +2,9 @@
 use Prim.Native.Nat.{ℕ, _+_, _-_, _≤_, _<_}
 use native.Mathlib.Numerals.{add-one}
 use native.Mathlib.Omega.{arith}
-use mathlib.Core.Path.{_≡_, sym, ap, _∙_}
+use mathlib.Core.Path.{_≡_, refl, sym, ap, _∙_}
 use mathlib.Core.Bool.{true}
-use mathlib.Core.List.{List}
+use mathlib.Core.List.{List, [], _∷_}
 use lib.ListN.{length, getD, drop}
 use lib.Seq.{drop-cons, drop-length}
 use lib.Ieee.{Float, nan}
@@ -28,6 +28,19 @@ module _ (eps0 mu0 c0 : Float) (samples : List Float) where
   pub ends : {W : Outcome Stores} (r : Record) (s : Stores) (i : ℕ) → ran eps0 mu0 c0 r (drop i samples) s ≡ W → i ≡ length samples → outcome 0 r s ≡ W
   unfolding ran
   ends r s i left e = sym (ap (λ (l : List Float). ran eps0 mu0 c0 r l s) (ap (λ (n : ℕ). drop n samples) e ∙ drop-length samples)) ∙ left
+
+-- of the record a run moves the clock alone
+module _ (eps0 mu0 c0 : Float) where
+  clock-alone : (r : Record) (samples : List Float) (s : Stores) → withClock r (ran eps0 mu0 c0 r samples s .study .clock) ≡ ran eps0 mu0 c0 r samples s .study
+  unfolding ran
+  clock-alone r [] s = refl
+  clock-alone r (x ∷ xs) s = clock-alone (ticked r) xs (stepped eps0 mu0 c0 r x s)
+
+  pub by-clock : (r q : Record) (samples : List Float) (s s' : Stores) → outcome 0 q s' ≡ ran eps0 mu0 c0 r samples s → outcome 0 (withClock r (q .clock)) s' ≡ ran eps0 mu0 c0 r samples s
+  by-clock r q samples s s' e =
+      let last = ap (λ (o : Outcome Stores). o .study) e in
+      let same = ap (λ (o : Record). withClock r (o .clock)) last ∙ clock-alone r samples s ∙ sym last in
+      ap (λ (o : Record). outcome 0 o s') same ∙ e
 
 -- the clock is not looked at
 same : {r : Record} (t : Clock) → Sound r → Sound (withClock r t)

@@ -2,15 +2,17 @@
 ghost use mathlib.Core.Path.{_≡_};
 ghost use Prim.Native.Nat.{_+_, _≤_};
 ghost use lib.ListN.{length};
+ghost use Rattle.grid.specs.Edited.{withClock};
 ghost use Rattle.grid.specs.Stores.{stores, outcome};
 ghost use Rattle.step.specs.Step.{lastStep};
 ghost use Rattle.step.specs.Ready.{Ready};
 ghost use Rattle.run.specs.Run.{ran, runCall};
-use grid::Answer;
+use grid::Clock;
 use grid::Record;
 use grid::stores::Lengths;
+use step::Moved;
 
-// The steps of a study without fault.
+// The steps of a study without fault, and the clock after them.
 fn advance_all(
     eps0: f64,
     mu0: f64,
@@ -26,16 +28,16 @@ fn advance_all(
     poles: &mut [f64],
     aux: &mut [f64],
     ids: &[u32],
-) -> Record
+) -> Clock
     requires { ⌜ Ready r (stores (now e) (now h) (now media) (now «psi_e») (now «psi_h») (now tables) (now poles) (now aux) (now ids)) ⌝ }
     requires { ⌜ r .clock .steps + length (now samples) ≤ lastStep ⌝ }
-    ensures { λ q. ⌜ outcome 0 q (stores (now (e .exit)) (now (h .exit)) (now (media .entry)) (now («psi_e» .exit)) (now («psi_h» .exit)) (now (tables .entry)) (now (poles .exit)) (now (aux .exit)) (now (ids .entry))) ≡ ran eps0 mu0 c0 r (now (samples .entry)) (stores (now (e .entry)) (now (h .entry)) (now (media .entry)) (now («psi_e» .entry)) (now («psi_h» .entry)) (now (tables .entry)) (now (poles .entry)) (now (aux .entry)) (now (ids .entry))) ⌝ }
+    ensures { λ t. ⌜ outcome 0 (withClock r t) (stores (now (e .exit)) (now (h .exit)) (now (media .entry)) (now («psi_e» .exit)) (now («psi_h» .exit)) (now (tables .entry)) (now (poles .exit)) (now (aux .exit)) (now (ids .entry))) ≡ ran eps0 mu0 c0 r (now (samples .entry)) (stores (now (e .entry)) (now (h .entry)) (now (media .entry)) (now («psi_e» .entry)) (now («psi_h» .entry)) (now (tables .entry)) (now (poles .entry)) (now (aux .entry)) (now (ids .entry))) ⌝ }
 {
     let mut q = r;
     let mut i = 0usize;
     while i < samples.len() {
         let x = samples[i];
-        q = step::advance(
+        let clock = step::advance(
             eps0,
             mu0,
             c0,
@@ -51,9 +53,10 @@ fn advance_all(
             aux,
             ids,
         );
+        q.clock = clock;
         i += 1usize;
     }
-    q
+    q.clock
 }
 
 // A step for each sample.
@@ -72,8 +75,8 @@ pub fn run(
     poles: &mut [f64],
     aux: &mut [f64],
     ids: &[u32],
-) -> Answer
-    ensures { λ o. ⌜ outcome (o .refusal) (o .study) (stores (now (e .exit)) (now (h .exit)) (now (media .entry)) (now («psi_e» .exit)) (now («psi_h» .exit)) (now (tables .entry)) (now (poles .exit)) (now (aux .exit)) (now (ids .entry))) ≡ runCall eps0 mu0 c0 r (now (samples .entry)) (stores (now (e .entry)) (now (h .entry)) (now (media .entry)) (now («psi_e» .entry)) (now («psi_h» .entry)) (now (tables .entry)) (now (poles .entry)) (now (aux .entry)) (now (ids .entry))) ⌝ }
+) -> Moved
+    ensures { λ o. ⌜ outcome (o .refusal) (withClock r (o .clock)) (stores (now (e .exit)) (now (h .exit)) (now (media .entry)) (now («psi_e» .exit)) (now («psi_h» .exit)) (now (tables .entry)) (now (poles .exit)) (now (aux .exit)) (now (ids .entry))) ≡ runCall eps0 mu0 c0 r (now (samples .entry)) (stores (now (e .entry)) (now (h .entry)) (now (media .entry)) (now («psi_e» .entry)) (now («psi_h» .entry)) (now (tables .entry)) (now (poles .entry)) (now (aux .entry)) (now (ids .entry))) ⌝ }
 {
     let l = Lengths {
         electric: e.len(),
@@ -88,12 +91,10 @@ pub fn run(
     };
     let f = step::step_fault(r, l, ids, samples.len());
     if f != 0 {
-        return Answer {
-            refusal: f,
-            study: r,
-        };
+        let clock = r.clock;
+        return Moved { refusal: f, clock };
     }
-    let q = advance_all(
+    let clock = advance_all(
         eps0,
         mu0,
         c0,
@@ -109,8 +110,5 @@ pub fn run(
         aux,
         ids,
     );
-    Answer {
-        refusal: 0,
-        study: q,
-    }
+    Moved { refusal: 0, clock }
 }

@@ -6,8 +6,10 @@ ghost use mathlib.Core.Path.{_≡_};
 ghost use lib.ListN.{length};
 use boundary::LossyAbsorber;
 use boundary::walls;
+use codec::floats;
 use cpml::Psi;
 use cpml::absorber;
+use cpml::absorber::Absorbing;
 use cpml::memory;
 use grid::Record;
 use root::Spacings;
@@ -96,14 +98,19 @@ fn line() -> Record {
     o.study
 }
 
-// Whether the layer is active on z of the line, and on no other axis.
-fn active_on_z(r: Record, thickness: usize) -> bool {
+// Equal in every bit, so that -0.0 is not 0.0.
+fn same(x: f64, y: f64) -> bool {
+    floats::bits_of(x) == floats::bits_of(y)
+}
+
+// The layer asked for on all axes of the line.
+fn layer(r: Record, thickness: usize) -> Absorbing {
     let axes = [true, true, true];
     let given = [1.0; 156];
     let mut psi_e = [1.5; 144];
     let mut psi_h = [1.5; 144];
     let mut tables = [1.5; 156];
-    let o = absorber::set_boundary_cpml(
+    absorber::set_boundary_cpml(
         r,
         axes,
         thickness,
@@ -111,9 +118,21 @@ fn active_on_z(r: Record, thickness: usize) -> bool {
         &mut psi_e,
         &mut psi_h,
         &mut tables,
-    );
+    )
+}
+
+// Whether it was accepted and is active on z, and on no other axis.
+fn active_on_z(r: Record, thickness: usize) -> bool {
+    let o = layer(r, thickness);
     let active = o.active;
-    (o.refusal == 0) & active[2] & !active[0] & !active[1]
+    (o.refusal == 0) & !active[0] & !active[1] & active[2]
+}
+
+// Whether it was accepted and is active on no axis.
+fn inactive(r: Record, thickness: usize) -> bool {
+    let o = layer(r, thickness);
+    let active = o.active;
+    (o.refusal == 0) & !active[0] & !active[1] & !active[2]
 }
 
 fn cleared<'a>(which: Psi, psi_e: &'a [f64], psi_h: &'a [f64]) -> bool
@@ -122,7 +141,7 @@ fn cleared<'a>(which: Psi, psi_e: &'a [f64], psi_h: &'a [f64]) -> bool
     let m = memory::psi(which, psi_e, psi_h, 24);
     let mut i = 0;
     while i < m.len() {
-        if m[i] != 0.0 {
+        if !same(m[i], 0.0) {
             return false;
         }
         i += 1;
@@ -175,14 +194,14 @@ fn sigma_kept(r: Record) -> bool {
     let mut tables = [0.0; 18];
     let mut media = [1.0, 1.0, 0.25];
     let o = walls::set_boundary_lossy(r, a, &mut psi_e, &mut psi_h, &mut tables, &mut media);
-    (o.refusal == 0) & (media[2] == 0.25)
+    (o.refusal == 0) & same(media[2], 0.25)
 }
 
 fn main() {
     let r = line();
-    say(b"n 24, thickness 0 inactive", !active_on_z(r, 0));
+    say(b"n 24, thickness 0 inactive", inactive(r, 0));
     say(b"n 24, thickness 11 active", active_on_z(r, 11));
-    say(b"n 24, thickness 12 inactive", !active_on_z(r, 12));
+    say(b"n 24, thickness 12 inactive", inactive(r, 12));
     say(b"all twelve memories cleared", memories_cleared(r));
     say(b"lossy, n 1, sigma kept", sigma_kept(one_cell()));
     say(

@@ -1,7 +1,7 @@
 // A wave sent into a line of four cells: the auxiliary line after one step, as document 01 states it, and after a second one.
 ghost use mathlib.Core.Path.{_≡_};
 ghost use lib.ListN.{length};
-use codec::floats;
+use crate::same;
 use root::C0;
 use root::EPS0;
 use root::MU0;
@@ -12,10 +12,6 @@ use tfsf::region;
 const PLACES: usize = 52;
 
 const SOURCE: usize = 6;
-
-fn same(x: f64, y: f64) -> bool {
-    floats::bits_of(x) == floats::bits_of(y)
-}
 
 // Whether the places of the line but those from a up to z, of both fields, hold +0.0.
 fn zero_but(line: &[f64], a: usize, z: usize) -> bool
@@ -74,9 +70,9 @@ pub fn wave_sent(first: f64, second: f64) -> bool {
     let mut poles = [1.5; 12];
     let mut aux = [1.5; 104];
     let mut ids = [7u32; 4];
-    let r = opening::open_record(0, 0, 0, 0, s);
+    let standing = opening::open_record(0, 0, 0, 0, s);
     let o = opening::new_rect(
-        r,
+        standing,
         1,
         1,
         4,
@@ -93,7 +89,7 @@ pub fn wave_sent(first: f64, second: f64) -> bool {
         &mut ids,
     );
     let w = region::slab_z(o.study, 1, 2, &mut aux);
-    let p = step::step(
+    let p = clock::step_record(
         EPS0,
         MU0,
         C0,
@@ -110,11 +106,14 @@ pub fn wave_sent(first: f64, second: f64) -> bool {
         &ids,
     );
     let one = after_one(&aux, first);
-    let q = step::step(
+    let t = p.clock;
+    let mut r = w.study;
+    r.clock = t;
+    let q = clock::step_record(
         EPS0,
         MU0,
         C0,
-        p.study,
+        r,
         second,
         &mut e,
         &mut h,
@@ -131,7 +130,7 @@ pub fn wave_sent(first: f64, second: f64) -> bool {
         & (w.refusal == 0)
         & (p.refusal == 0)
         & (q.refusal == 0)
-        & (q.study.clock.steps == 2)
+        & (q.clock.steps == 2)
         & one
         & two
 }

@@ -1,5 +1,6 @@
 -- Bytes as code judges them, record by record, by places. Assumes nothing.
 use Prim.Native.Nat.{ℕ, zero, suc, _+_, _-_, _*_, _^_, _≤_, _<_}
+use native.Mathlib.Nat.{zero-add}
 use native.Mathlib.Numerals.{add-one}
 use native.Mathlib.Omega.{arith}
 use mathlib.Core.Path.{_≡_, refl, sym, ap, _∙_}
@@ -7,18 +8,19 @@ use mathlib.Core.Bool.{Bool, true, false, cond}
 use mathlib.Core.List.{List, [], _∷_}
 use borrow.Author.Tests.{lt-ltb, le-ltb, eq-eqb, ne-eqb, eqb-true, eqb-false}
 use lib.Dec.{T, ltb, eqb, lt→ltb}
-use lib.ListN.{length, getD, drop, length-drop, drop-of-length-le}
+use lib.ListN.{length, getD, drop, set, length-drop, drop-of-length-le}
 use lib.Seq.{drop-drop, drop-cons}
+use Rattle.codec.specs.Lists.{put}
 use Rattle.codec.specs.Bytes.{nums, bytesFit}
 use Rattle.codec.specs.Frame.{frameFault, badRecord}
-use Rattle.codec.proofs.Lists.{every-of, every-drop}
+use Rattle.codec.proofs.Lists.{put-whole, every-of, every-drop}
 use Rattle.codec.proofs.Row.{nums-fit, fit-at}
 use Rattle.codec.proofs.Framed.{frame-room}
 use Rattle.dispersion.specs.declared.DispersiveMaterial.{DispersiveMaterial}
 use Rattle.dispersion.specs.Material.{vacuumMaterial}
 use Rattle.cells.specs.Cells.{joined, row}
 use Rattle.cells.proofs.Blocks.{length-row}
-use Rattle.cells.proofs.Written.{getD-row}
+use Rattle.cells.proofs.Written.{row-more, getD-row}
 use Rattle.frames.specs.declared.Taken.{Taken}
 use Rattle.frames.specs.declared.Taken.the-variants.{Fault, At}
 use Rattle.frames.specs.Taking.{takenAt}
@@ -234,3 +236,11 @@ module _ (b g : List ℕ) (f : ℕ) (own : g ≡ headOf b) (p : f ≡ recordFaul
 
     pub list-room : k ≡ 0 → 85 + 125 * countOf g ≤ length b
     list-room z = omega (arith, record-left (listRecord g) b 79 k q z (head-room b f p h))
+
+-- ---- the materials, read one after another
+module _ (s t : List DispersiveMaterial) (i : ℕ) (f : ℕ → DispersiveMaterial) (long : length s ≡ 16) (done : t ≡ put s 0 (row i f)) where
+  pub materials-more : (v : DispersiveMaterial) → i < 16 → v ≡ f i → set t i v ≡ put s 0 (row (i + 1) f)
+  materials-more v h e = ap (λ (k : ℕ). set t k v) (sym (zero-add i)) ∙ row-more s t 0 i v f (omega arith) done e
+
+  pub materials-all : i ≡ 16 → t ≡ row 16 f
+  materials-all e = done ∙ ap (λ (k : ℕ). put s 0 (row k f)) e ∙ put-whole s (row 16 f) (length-row 16 f ∙ sym long)

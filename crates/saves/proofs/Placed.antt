@@ -1,14 +1,19 @@
 -- Records as code writes them, one after another from a place on. Assumes nothing.
 use Prim.Native.Nat.{ℕ, _+_, _*_, _≤_, _<_}
+use native.Mathlib.Nat.{zero-mul, suc-mul}
+use native.Mathlib.Numerals.{add-one}
 use native.Mathlib.Omega.{arith}
 use mathlib.Core.Path.{_≡_, refl, sym, ap, _∙_}
+use mathlib.Core.Bool.{Bool, cond}
 use mathlib.Core.List.{List, [], _∷_, _++_, append-assoc, append-nil}
-use lib.ListN.{length, getD}
-use lib.Ieee.{Float}
-use Rattle.codec.specs.Lists.{put}
-use Rattle.codec.specs.Bytes.{floatsBytes, idsBytes}
+use lib.ListN.{length, getD, take}
+use lib.Seq.{length-take-le, take-add, take-all}
+use lib.Ieee.{Float, binary64, toBits}
+use Rattle.codec.specs.Lists.{put, part}
+use Rattle.codec.specs.Bytes.{bytesOf, floatsBytes, idsBytes}
 use Rattle.codec.specs.Frame.{frameBytes}
-use Rattle.codec.proofs.Lists.{put-next}
+use Rattle.codec.proofs.Lists.{put-nil, put-next, part-length}
+use Rattle.codec.proofs.Elements.{bytesOf-append}
 use Rattle.codec.proofs.Framed.{length-frame}
 use Rattle.cells.specs.Cells.{joined}
 use Rattle.cells.proofs.Written.{joined-more, joined-all}
@@ -16,6 +21,8 @@ use Rattle.dispersion.specs.declared.DispersiveMaterial.{DispersiveMaterial}
 use Rattle.grid.specs.declared.Record.{Record}
 use Rattle.grid.specs.Stores.{Stores}
 use Rattle.grid.specs.Fault.{beyond}
+use Rattle.cpml.specs.Memory.{inOrder, memoryOf}
+use Rattle.cpml.proofs.Memories.{part-in, either-long, memory-in-order}
 use Rattle.format.specs.Records.{Piece, piece, framed, frames}
 use Rattle.format.specs.Save.{markGH, markML, markCI, markCM, markFE, markFH, markLE, markLH, markLT, markPP, markAX, headBytes, materialBytes, listBytes, pieces, saveBytes}
 use Rattle.saves.specs.Room.{Roomy}
@@ -79,6 +86,41 @@ pub then-floats : (l a o : List ℕ) (at n n' k m : ℕ) (ps : List Piece) (xs :
     (n' ≡ n + (6 + 8 * length xs)) × (o ≡ put a n (frames (piece m (floatsBytes xs) ∷ []))) → at + (k + (6 + 8 * length xs)) ≤ length l →
     Wrote l at (ps ++ (piece m (floatsBytes xs) ∷ [])) (k + (6 + 8 * length xs)) o n'
 then-floats l a o at n n' k m ps xs w e h = wrote-then l a o at n n' k (6 + 8 * length xs) ps (piece m (floatsBytes xs) ∷ []) w (floats-extent m xs) (e .0) (e .1) h
+
+-- ---- a store of memories, one after another
+pub memories-none : (l : List ℕ) (at n : ℕ) (s : List Float) → l ≡ put l at (floatsBytes (take (0 * n) s))
+unfolding bytesOf
+memories-none l at n s = sym (ap (λ (k : ℕ). put l at (floatsBytes (take k s))) (zero-mul n) ∙ put-nil l at)
+
+pub memories-more : (l t u : List ℕ) (at k n : ℕ) (electric : Bool) (e h : List Float) → length e ≡ 6 * n → length h ≡ 6 * n → k < 6 → at + 48 * n ≤ length l →
+    t ≡ put l at (floatsBytes (take (k * n) (cond electric e h))) → u ≡ put t (at + 8 * (k * n)) (floatsBytes (memoryOf (inOrder electric k) e h n)) →
+    u ≡ put l at (floatsBytes (take ((k + 1) * n) (cond electric e h)))
+unfolding part
+memories-more l t u at k n electric e h pe ph small room p q =
+    let s = cond electric e h in
+    let long : length s ≡ 6 * n = either-long electric e h (6 * n) pe ph in
+    let inside : k * n + n ≤ 6 * n = part-in k n (omega (arith, small)) in
+    let before : length (take (k * n) s) ≡ k * n = length-take-le (k * n) s (omega arith) in
+    let after : length (part s (k * n) n) ≡ n = part-length s (k * n) n (omega arith) in
+    let wide : length (floatsBytes (take (k * n) s)) ≡ 8 * (k * n) = floats-long (take (k * n) s) ∙ ap (λ (i : ℕ). 8 * i) before in
+    let next : k * n + n ≡ (k + 1) * n = sym (ap (λ (i : ℕ). i * n) (add-one k) ∙ suc-mul k n) in
+    q
+    ∙ ap (λ (m : List Float). put t (at + 8 * (k * n)) (floatsBytes m)) (memory-in-order electric k e h n small)
+    ∙ ap (λ (x : List ℕ). put x (at + 8 * (k * n)) (floatsBytes (part s (k * n) n))) p
+    ∙ put-next l at (8 * (k * n)) (floatsBytes (take (k * n) s)) (floatsBytes (part s (k * n) n)) wide (omega (arith, floats-long (part s (k * n) n)))
+    ∙ ap (put l at) (sym (bytesOf-append 8 (toBits binary64) (take (k * n) s) (part s (k * n) n)))
+    ∙ ap (λ (m : List Float). put l at (floatsBytes m)) (sym (take-add (k * n) n s) ∙ ap (λ (i : ℕ). take i s) next)
+
+pub memories-all : (l t : List ℕ) (at k n : ℕ) (electric : Bool) (e h : List Float) → length e ≡ 6 * n → length h ≡ 6 * n → k ≡ 6 →
+    t ≡ put l at (floatsBytes (take (k * n) (cond electric e h))) → t ≡ put l at (floatsBytes (cond electric e h))
+memories-all l t at k n electric e h pe ph six p =
+    let s = cond electric e h in
+    let long : length s ≡ 6 * n = either-long electric e h (6 * n) pe ph in
+    p ∙ ap (λ (i : ℕ). put l at (floatsBytes (take (i * n) s))) six ∙ ap (λ (m : List Float). put l at (floatsBytes m)) (take-all (6 * n) s (omega arith))
+
+-- a record of memories, n numbers each, as one of floats
+pub memories-floats : {P : Type 0} (at p n : ℕ) (xs : List Float) → length xs ≡ 6 * n → (p ≡ at + (6 + 48 * n)) × P → (p ≡ at + (6 + 8 * length xs)) × P
+memories-floats at p n xs long e = (omega (arith, long, e .0), e .1)
 
 -- ---- the materials
 pub list-more : (s t u : List ℕ) (at i n : ℕ) (ms : List DispersiveMaterial) → at + 125 * n ≤ length s → i < n →

@@ -55,13 +55,13 @@ pub fn save_length(r: Record) -> Length
 }
 
 // Writes the study's save to the front of the lent bytes.
-pub fn save(
+pub fn save<'a>(
     r: Record,
     e: &[f64],
     h: &[f64],
     media: &[f64],
-    psi_e: &[f64],
-    psi_h: &[f64],
+    psi_e: &'a [f64],
+    psi_h: &'a [f64],
     tables: &[f64],
     poles: &[f64],
     aux: &[f64],

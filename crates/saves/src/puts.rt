@@ -1,16 +1,20 @@
 // The eleven records, each written straight to its place.
 ghost use mathlib.Core.Path.{_≡_};
+ghost use mathlib.Core.Bool.{cond};
 ghost use mathlib.Core.List.{[], _∷_};
 ghost use Prim.Native.Nat.{_+_, _*_, _≤_};
 ghost use lib.ListN.{length};
 ghost use Rattle.codec.specs.Lists.{put};
 ghost use Rattle.codec.specs.Bytes.{floatsBytes, idsBytes};
 ghost use Rattle.grid.specs.Stores.{stores};
+ghost use Rattle.cpml.specs.Memory.{memoryOf};
 ghost use Rattle.format.specs.Records.{piece, frames};
 ghost use Rattle.format.specs.Save.{markGH, markML, markCI, markCM, markFE, markFH, markLE, markLH, markLT, markPP, markAX, headBytes, listBytes, saveBytes};
 ghost use Rattle.saves.specs.Room.{Roomy};
 use codec::frame;
 use codec::stores;
+use cpml::Psi;
+use cpml::memory;
 use grid::Record;
 use heads::payloads;
 
@@ -100,13 +104,75 @@ fn put_cells(out: &mut [u8], at: usize, ids: &[u32], media: &[f64], e: &[f64], h
     put_floats(out, s, FH, h)
 }
 
-// LE, LH, LT.
-fn put_layer(out: &mut [u8], at: usize, psi_e: &[f64], psi_h: &[f64], tables: &[f64]) -> usize
-    requires { ⌜ (at + (18 + 8 * length (now «psi_e») + 8 * length (now «psi_h») + 8 * length (now tables)) ≤ length (now out)) × (length (now «psi_e») ≤ 28311552) × (length (now «psi_h») ≤ 28311552) × (length (now tables) ≤ 28311552) ⌝ }
-    ensures { λ n. ⌜ (n ≡ at + (18 + 8 * length (now («psi_e» .entry)) + 8 * length (now («psi_h» .entry)) + 8 * length (now (tables .entry)))) × (now (out .exit) ≡ put (now (out .entry)) at (frames (piece markLE (floatsBytes (now («psi_e» .entry))) ∷ piece markLH (floatsBytes (now («psi_h» .entry))) ∷ piece markLT (floatsBytes (now (tables .entry))) ∷ []))) ⌝ }
+// One memory of the layer.
+fn put_memory<'a>(
+    out: &mut [u8],
+    at: usize,
+    which: Psi,
+    psi_e: &'a [f64],
+    psi_h: &'a [f64],
+    n: usize,
+)
+    requires { ⌜ (at + 8 * n ≤ length (now out)) × (length (now «psi_e») ≡ 6 * n) × (length (now «psi_h») ≡ 6 * n) ⌝ }
+    ensures { λ _. ⌜ now (out .exit) ≡ put (now (out .entry)) at (floatsBytes (memoryOf which (now («psi_e» .entry)) (now («psi_h» .entry)) n)) ⌝ }
 {
-    let p = put_floats(out, at, LE, psi_e);
-    let q = put_floats(out, p, LH, psi_h);
+    let m = memory::psi(which, psi_e, psi_h, n);
+    stores::put_f64s(out, at, m);
+}
+
+// The six memories of the electric or of the magnetic field, in their order: the whole store.
+fn put_six<'a>(
+    out: &mut [u8],
+    at: usize,
+    electric: bool,
+    psi_e: &'a [f64],
+    psi_h: &'a [f64],
+    n: usize,
+)
+    requires { ⌜ (at + 48 * n ≤ length (now out)) × (length (now «psi_e») ≡ 6 * n) × (length (now «psi_h») ≡ 6 * n) ⌝ }
+    ensures { λ _. ⌜ now (out .exit) ≡ put (now (out .entry)) at (floatsBytes (cond electric (now («psi_e» .entry)) (now («psi_h» .entry)))) ⌝ }
+{
+    let mut k = 0;
+    while k < 6 {
+        let which = memory::in_order(electric, k);
+        put_memory(out, at + 8 * (k * n), which, psi_e, psi_h, n);
+        k += 1;
+    }
+}
+
+// A record of one field's memories; the place after it.
+fn put_memories<'a>(
+    out: &mut [u8],
+    at: usize,
+    mark: u16,
+    electric: bool,
+    psi_e: &'a [f64],
+    psi_h: &'a [f64],
+    n: usize,
+) -> usize
+    requires { ⌜ (at + (6 + 48 * n) ≤ length (now out)) × (length (now «psi_e») ≡ 6 * n) × (length (now «psi_h») ≡ 6 * n) × (6 * n ≤ 28311552) ⌝ }
+    ensures { λ m. ⌜ (m ≡ at + (6 + 48 * n)) × (now (out .exit) ≡ put (now (out .entry)) at (frames (piece mark (floatsBytes (cond electric (now («psi_e» .entry)) (now («psi_h» .entry)))) ∷ []))) ⌝ }
+{
+    let long = 48 * n;
+    frame::put_frame(out, at, mark, long as u32);
+    put_six(out, at + 6, electric, psi_e, psi_h, n);
+    at + (6 + long)
+}
+
+// LE, LH, LT, of n cells.
+fn put_layer<'a>(
+    out: &mut [u8],
+    at: usize,
+    psi_e: &'a [f64],
+    psi_h: &'a [f64],
+    tables: &[f64],
+    n: usize,
+) -> usize
+    requires { ⌜ (at + (18 + 8 * length (now «psi_e») + 8 * length (now «psi_h») + 8 * length (now tables)) ≤ length (now out)) × (length (now «psi_e») ≡ 6 * n) × (length (now «psi_h») ≡ 6 * n) × (6 * n ≤ 28311552) × (length (now tables) ≤ 28311552) ⌝ }
+    ensures { λ m. ⌜ (m ≡ at + (18 + 8 * length (now («psi_e» .entry)) + 8 * length (now («psi_h» .entry)) + 8 * length (now (tables .entry)))) × (now (out .exit) ≡ put (now (out .entry)) at (frames (piece markLE (floatsBytes (now («psi_e» .entry))) ∷ piece markLH (floatsBytes (now («psi_h» .entry))) ∷ piece markLT (floatsBytes (now (tables .entry))) ∷ []))) ⌝ }
+{
+    let p = put_memories(out, at, LE, true, psi_e, psi_h, n);
+    let q = put_memories(out, p, LH, false, psi_e, psi_h, n);
     put_floats(out, q, LT, tables)
 }
 
@@ -119,14 +185,14 @@ fn put_ends(out: &mut [u8], at: usize, poles: &[f64], aux: &[f64])
     put_floats(out, p, AX, aux);
 }
 
-pub fn put_save(
+pub fn put_save<'a>(
     out: &mut [u8],
     r: Record,
     e: &[f64],
     h: &[f64],
     media: &[f64],
-    psi_e: &[f64],
-    psi_h: &[f64],
+    psi_e: &'a [f64],
+    psi_h: &'a [f64],
     tables: &[f64],
     poles: &[f64],
     aux: &[f64],
@@ -138,6 +204,6 @@ pub fn put_save(
     put_head(out, r);
     let p = put_materials(out, r);
     let q = put_cells(out, p, ids, media, e, h);
-    let s = put_layer(out, q, psi_e, psi_h, tables);
+    let s = put_layer(out, q, psi_e, psi_h, tables, ids.len());
     put_ends(out, s, poles, aux);
 }

@@ -4,12 +4,12 @@ ghost use Prim.Native.Nat.{_+_, _*_, _<_};
 ghost use lib.Dec.{leb, ltb};
 ghost use lib.ListN.{length};
 ghost use Rattle.codec.specs.Lists.{every};
+ghost use Rattle.grid.specs.Edited.{withClock};
 ghost use Rattle.grid.specs.Stores.{cells, stores, outcome};
 ghost use Rattle.ade.specs.Polarization.{deltaP};
 ghost use Rattle.fdtd.specs.Halves.{halfH, psiAfter, magneticAfter, halfE, electricAfter};
 ghost use Rattle.step.specs.Step.{freshIds, stepFault, lineMid, correctedH, correctedE, lineEnd, polarized, stepped, ticked, lastStep, stepCall};
 ghost use Rattle.step.specs.Ready.{Wavy, Polar, Ready};
-use grid::Answer;
 use grid::Clock;
 use grid::Record;
 use grid::fault;
@@ -21,6 +21,12 @@ use tfsf::line;
 pub const STALE_MATERIAL: u32 = 8;
 
 pub const SPENT_CLOCK: u32 = 11;
+
+// The refusal's number, 0 where the call was accepted, and the clock after it: nothing else of a record moves in a step.
+pub struct Moved {
+    pub refusal: u32,
+    pub clock: Clock,
+}
 
 fn wide(x: u32) -> usize
     ensures { λ r. ⌜ r ≡ x ⌝ }
@@ -155,20 +161,17 @@ fn electric_half(
     wave_e(eps0, c0, r, sample, media, aux, e);
 }
 
-fn tick(r: Record) -> Record
+fn tick(r: Record) -> Clock
     requires { ⌜ r .clock .steps < lastStep ⌝ }
-    ensures { λ q. ⌜ q ≡ ticked r ⌝ }
+    ensures { λ t. ⌜ t ≡ ticked r .clock ⌝ }
 {
-    let clock = Clock {
+    Clock {
         time: r.clock.time + r.spacings.dt,
         steps: r.clock.steps + 1,
-    };
-    let mut q = r;
-    q.clock = clock;
-    q
+    }
 }
 
-// A step of a study without fault.
+// A step of a study without fault, and the clock after it.
 pub fn advance(
     eps0: f64,
     mu0: f64,
@@ -184,10 +187,10 @@ pub fn advance(
     poles: &mut [f64],
     aux: &mut [f64],
     ids: &[u32],
-) -> Record
+) -> Clock
     requires { ⌜ Ready r (stores (now e) (now h) (now media) (now «psi_e») (now «psi_h») (now tables) (now poles) (now aux) (now ids)) ⌝ }
     requires { ⌜ r .clock .steps < lastStep ⌝ }
-    ensures { λ q. ⌜ q ≡ ticked r ⌝ }
+    ensures { λ t. ⌜ t ≡ ticked r .clock ⌝ }
     ensures { λ _. ⌜ stores (now (e .exit)) (now (h .exit)) (now (media .entry)) (now («psi_e» .exit)) (now («psi_h» .exit)) (now (tables .entry)) (now (poles .exit)) (now (aux .exit)) (now (ids .entry)) ≡ stepped eps0 mu0 c0 r sample (stores (now (e .entry)) (now (h .entry)) (now (media .entry)) (now («psi_e» .entry)) (now («psi_h» .entry)) (now (tables .entry)) (now (poles .entry)) (now (aux .entry)) (now (ids .entry))) ⌝ }
 {
     magnetic_half(mu0, r, e, h, media, psi_h, tables, aux);
@@ -208,8 +211,9 @@ pub fn advance(
     tick(r)
 }
 
-// Moves the study on by one step. The sample is what the wave's source gives at time + dt.
+// Moves a study on by one step, from the clock that is handed in beside the record. The sample is what the wave's source gives at time + dt.
 pub fn step(
+    clock: Clock,
     eps0: f64,
     mu0: f64,
     c0: f64,
@@ -224,9 +228,11 @@ pub fn step(
     poles: &mut [f64],
     aux: &mut [f64],
     ids: &[u32],
-) -> Answer
-    ensures { λ o. ⌜ outcome (o .refusal) (o .study) (stores (now (e .exit)) (now (h .exit)) (now (media .entry)) (now («psi_e» .exit)) (now («psi_h» .exit)) (now (tables .entry)) (now (poles .exit)) (now (aux .exit)) (now (ids .entry))) ≡ stepCall eps0 mu0 c0 r sample (stores (now (e .entry)) (now (h .entry)) (now (media .entry)) (now («psi_e» .entry)) (now («psi_h» .entry)) (now (tables .entry)) (now (poles .entry)) (now (aux .entry)) (now (ids .entry))) ⌝ }
+) -> Moved
+    ensures { λ o. ⌜ outcome (o .refusal) (withClock r (o .clock)) (stores (now (e .exit)) (now (h .exit)) (now (media .entry)) (now («psi_e» .exit)) (now («psi_h» .exit)) (now (tables .entry)) (now (poles .exit)) (now (aux .exit)) (now (ids .entry))) ≡ stepCall eps0 mu0 c0 (withClock r clock) sample (stores (now (e .entry)) (now (h .entry)) (now (media .entry)) (now («psi_e» .entry)) (now («psi_h» .entry)) (now (tables .entry)) (now (poles .entry)) (now (aux .entry)) (now (ids .entry))) ⌝ }
 {
+    let mut q = r;
+    q.clock = clock;
     let l = Lengths {
         electric: e.len(),
         magnetic: h.len(),
@@ -238,18 +244,15 @@ pub fn step(
         aux: aux.len(),
         ids: ids.len(),
     };
-    let f = step_fault(r, l, ids, 1);
+    let f = step_fault(q, l, ids, 1);
     if f != 0 {
-        return Answer {
-            refusal: f,
-            study: r,
-        };
+        return Moved { refusal: f, clock };
     }
-    let q = advance(
+    let moved = advance(
         eps0,
         mu0,
         c0,
-        r,
+        q,
         sample,
         e,
         h,
@@ -261,8 +264,8 @@ pub fn step(
         aux,
         ids,
     );
-    Answer {
+    Moved {
         refusal: 0,
-        study: q,
+        clock: moved,
     }
 }

@@ -1,7 +1,7 @@
 -- Worlds and their studies: what a block says, before a call and after it. Assumes nothing.
 use Prim.Native.Nat.{ℕ, zero, suc, _<_}
 use native.Mathlib.Omega.{arith}
-use mathlib.Core.Path.{_≡_, refl, ap, _∙_}
+use mathlib.Core.Path.{_≡_, refl, sym, ap, _∙_}
 use mathlib.Core.Bool.{Bool, true, false, cond}
 use mathlib.Core.Option.{Option, none, some}
 use mathlib.Core.List.{List, [], _∷_}
@@ -14,17 +14,20 @@ use Rattle.codec.specs.Bytes.{bytesFit, enc}
 use Rattle.codec.proofs.Lists.{every-append}
 use Rattle.codec.proofs.Row.{enc-fit}
 use Rattle.cells.specs.Cells.{joined}
+use Rattle.grid.specs.declared.Clock.{Clock}
 use Rattle.grid.specs.declared.Record.{Record}
 use Rattle.grid.specs.Canon.{canon}
+use Rattle.grid.specs.Edited.{withClock}
 use Rattle.grid.specs.Fault.{faultOf}
 use Rattle.grid.proofs.Canonical.{canon-twice}
 use Rattle.heads.specs.Numbers.{ghWidths, ghNums, mlWidths}
-use Rattle.block.specs.Held.{Held}
-use Rattle.block.specs.Block.{blockFine, blockRecord, entryNums, entryBytes, blockOf}
+use Rattle.block.specs.Held.{held, Held}
+use Rattle.block.specs.Block.{blockFine, blockRecord, entryNums, entryBytes, blockOf, clockPut}
 use Rattle.block.proofs.Turns.{block-long}
 use Rattle.block.proofs.Back.{fine-block, record-block}
+use Rattle.block.proofs.Clock.{clock-fine, clock-record}
 use Rattle.block.proofs.Decoded.{record-held}
-use Rattle.calls.specs.Blocks.{blockAfter}
+use Rattle.calls.specs.Blocks.{blockAfter, clockAfter}
 use Rattle.study.specs.World.{World, Study, ifFine, studyOf, Holding}
 
 pub byte-at : (l : List ℕ) → T (bytesFit l) → (i : ℕ) → getD l i 0 < 256
@@ -53,6 +56,22 @@ pub study-put : (v : World) (r : Record) → faultOf r ≡ 0 → Held r → v .b
 study-put v r ok h e =
     study-fine v (ap blockFine e ∙ fine-block r ok h)
     ∙ ap {B = Option Study} (λ (q : Record). some (record { rec = q; kept = v .kept })) (ap canon (ap blockRecord e ∙ record-block r ok h) ∙ canon-twice r)
+
+-- a block in which another clock was put says the record of before with that clock
+pub study-clock : (w v : World) (q : Record) → blockFine (w .block) ≡ true → T (held (q .clock .time)) → q .clock .steps < 4294967296 →
+    q ≡ withClock (blockRecord (w .block)) (q .clock) → v .block ≡ clockPut (q .clock) (w .block) → studyOf v ≡ some (record { rec = canon q; kept = v .kept })
+study-clock w v q fine t s alone e =
+    let long = block-long (w .block) fine in
+    study-fine v (ap blockFine e ∙ clock-fine (w .block) (q .clock) long t s ∙ fine)
+    ∙ ap {B = Option Study} (λ (x : Record). some (record { rec = canon x; kept = v .kept })) (ap blockRecord e ∙ clock-record (w .block) (q .clock) long t s ∙ sym alone)
+
+pub clock-accepted : (c : Clock) (b : List ℕ) → clockAfter 0 c b ≡ clockPut c b
+unfolding clockAfter
+clock-accepted c b = refl
+
+pub clock-refused : (n : ℕ) (c : Clock) (b : List ℕ) → clockAfter (suc n) c b ≡ b
+unfolding clockAfter
+clock-refused n c b = ap (λ (t : Bool). cond t (clockPut c b) b) (ne-eqb (suc n) 0 (λ k. omega (arith, k)))
 
 pub after-accepted : (r : Record) (b : List ℕ) → blockAfter 0 r b ≡ blockOf r
 unfolding blockAfter

@@ -12,6 +12,7 @@ use Rattle.root.specs.Rounded.{zeroF}
 use Rattle.root.specs.Constants.{eps0, mu0, c0}
 use Rattle.cells.specs.declared.IndexBox.{IndexBox}
 use Rattle.grid.specs.declared.Record.{Record}
+use Rattle.grid.specs.Edited.{withClock}
 use Rattle.grid.specs.Stores.{Stores, stores, Outcome, lengthsOf}
 use Rattle.opening.specs.Layer.{Layer, layer}
 use Rattle.materials.specs.Materials.{setMaterialCall, placed, assignBoxCall, halfspace, buildCall}
@@ -24,12 +25,12 @@ use Rattle.step.specs.Step.{stepCall}
 use Rattle.run.specs.Run.{runCall}
 use Rattle.block.specs.Block.{blockRecord}
 use Rattle.format.specs.Save.{saveLength as bytesLong, saveCall, lengthCall}
-use Rattle.calls.specs.Blocks.{sent, onBlock, told, readBlock, answered, answering, addBytesCall, axisBits, Named, named, naming, openOnBlock, rewindOnBlock}
+use Rattle.calls.specs.Blocks.{sent, onBlock, clockOnBlock, told, readBlock, answered, answering, addBytesCall, axisBits, Named, named, naming, openOnBlock, rewindOnBlock}
 use Rattle.study.specs.History.{opening, doing, saving, rewinding, Honest}
 use Rattle.study.specs.World.{World, Lent, lentIn, Opening, SaidOpening, Act, SaidAct, setMaterial, assignBox, assignHalfspace, addMaterial, buildDispersion, setPeriodic, wallsPeriodic, wallsConductor, wallsLossy, wallsCpml, slab, injector, boxRegion, step, run, resetFields, totalEnergy, planeReading, saveLength, Answer, nothing, numbers, floats, Room, front, puts}
 use Rattle.study.specs.Calls.{putMedia, putPlaced, putPoles, putLayer, putLossed, putAux, putReset, layerOf, lossedOf, placedOf, resetOf, boxOf, Form, form, engine, replyOf, MadeOn, Silently, Numbering, Reading}
-use Rattle.study.proofs.Regular.{reads}
-use Rattle.study.proofs.Made.{on-block, read-block}
+use Rattle.study.proofs.Regular.{regular, reads, moves}
+use Rattle.study.proofs.Made.{on-block, clock-block, read-block}
 use Rattle.study.proofs.Made as made
 
 -- ---- a call that only puts stores
@@ -38,6 +39,14 @@ silently : (c : Act) → SaidAct c → form c .lends nothing → ((x : form c .R
     → Honest engine (record { call = doing c; handed = w; lent = nothing; reply = replyOf n nothing nothing; left = v; back = nothing })
 silently c said lends quiet n y w v e s =
     on-block w v c said nothing nothing lends (λ x. x) n y nothing (λ x i. (s ∙ ap (λ (z : form c .Rest). form c .stored z (w .kept)) i, quiet x, refl)) e
+
+-- ---- one that moves the clock besides, and nothing else of the record
+moving : (c : Act) → SaidAct c → form c .lends nothing → ((x : form c .Rest) → nothing ≡ form c .answer x) → (n : ℕ) (y : form c .Rest) (w v : World)
+    → sent n (v .block) y ≡ clockOnBlock (λ r. form c .call r (w .kept)) (w .block) (form c .idle (w .kept)) → v .kept ≡ form c .stored y (w .kept)
+    → ((q : Record) → regular c .next q (w .kept) ≡ withClock q (regular c .next q (w .kept) .clock))
+    → Honest engine (record { call = doing c; handed = w; lent = nothing; reply = replyOf n nothing nothing; left = v; back = nothing })
+moving c said lends quiet n y w v e s alone =
+    clock-block w v c said nothing nothing lends (λ x. x) n y nothing (λ x i. (s ∙ ap (λ (z : form c .Rest). form c .stored z (w .kept)) i, quiet x, refl)) e alone
 
 -- ---- one that answers into a room: what stands at its front after it, and nothing else of it changed
 at-front : {A : Type 0} (room : List A) (x : A) → take 1 (set room 0 x) ≡ front (length room) x
@@ -144,13 +153,13 @@ module _ (b b' : List ℕ) (n : ℕ) where
   «cichowiej_box_region» i0 i1 j0 j1 k0 k1 aux aux' e w v p q r s = silently (boxRegion i0 i1 j0 j1 k0 k1) tt refl (λ x. refl) n aux' w v (rw (p, q, r) e) s
 
   -- ---- steps: media, tables and ids are lent to be read, and stand in t' as in t
-  pub «cichowiej_step» : (x : Float) (t t' : Stores) → SaidAct (step x) → sent n b' t' ≡ onBlock (λ r. stepCall eps0 mu0 c0 r x t) b t
+  pub «cichowiej_step» : (x : Float) (t t' : Stores) → SaidAct (step x) → sent n b' t' ≡ clockOnBlock (λ r. stepCall eps0 mu0 c0 r x t) b t
       → Silently b b' (λ s. s ≡ t) (λ s. t') (doing (step x)) n
-  «cichowiej_step» x t t' said e w v p q r s = silently (step x) said refl (λ z. refl) n t' w v (rw (p, q, r) e) s
+  «cichowiej_step» x t t' said e w v p q r s = moving (step x) said refl (λ z. refl) n t' w v (rw (p, q, r) e) s (λ z. moves x [] z (w .kept) .0)
 
-  pub «cichowiej_run» : (xs : List Float) (t t' : Stores) → SaidAct (run xs) → sent n b' t' ≡ onBlock (λ r. runCall eps0 mu0 c0 r xs t) b t
+  pub «cichowiej_run» : (xs : List Float) (t t' : Stores) → SaidAct (run xs) → sent n b' t' ≡ clockOnBlock (λ r. runCall eps0 mu0 c0 r xs t) b t
       → Silently b b' (λ s. s ≡ t) (λ s. t') (doing (run xs)) n
-  «cichowiej_run» xs t t' said e w v p q r s = silently (run xs) said refl (λ z. refl) n t' w v (rw (p, q, r) e) s
+  «cichowiej_run» xs t t' said e w v p q r s = moving (run xs) said refl (λ z. refl) n t' w v (rw (p, q, r) e) s (λ z. moves zeroF xs z (w .kept) .1)
 
   -- ---- fields
   pub «cichowiej_reset_fields» : (f f' : Reset) → sent n b' f' ≡ onBlock (λ r. resetCall r f) b f

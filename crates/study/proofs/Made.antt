@@ -14,6 +14,7 @@ use Rattle.codec.specs.Bytes.{bytesFit}
 use Rattle.study.specs.History.{Outcome as Fate, given, Reply, opening, doing, saving, rewinding, does, answerIn, Fits, Gives, Honest}
 use Rattle.grid.specs.declared.Record.{Record}
 use Rattle.grid.specs.Canon.{canon}
+use Rattle.grid.specs.Edited.{withClock}
 use Rattle.grid.specs.Fault.{badStudy, faultOf}
 use Rattle.grid.specs.Stores.{Stores, lengthsOf, Outcome, outcome, settle, faultWith, faultLent}
 use Rattle.grid.proofs.Tests.{or-none}
@@ -24,10 +25,10 @@ use Rattle.block.specs.Held.{Held}
 use Rattle.block.specs.Block.{blockLength, blockFine, blockRecord, blockOf}
 use Rattle.format.specs.Save.{saveLength, saveBytes, saveFault, saveCall}
 use Rattle.format.specs.Rewind.{readRecord, readStores, rewindFault}
-use Rattle.calls.specs.Blocks.{Sent, sent, blockAfter, passed, onBlock, Told, told, readBlock, lentBlock, openOnBlock, rewindOnBlock}
+use Rattle.calls.specs.Blocks.{Sent, sent, blockAfter, passed, onBlock, clockAfter, moved, clockOnBlock, Told, told, readBlock, lentBlock, openOnBlock, rewindOnBlock}
 use Rattle.study.specs.World.{World, Study, studyOf, lentIn, Opening, SaidOpening, Act, SaidAct, Asked, Answer, nothing, numbers, Room, puts}
 use Rattle.study.specs.Calls.{Form, form, settled, lifted, actsOn, openedOf, savesIn, engine, weightOf, replyOf}
-use Rattle.study.proofs.Blocks.{under, study-fine, study-none, study-put, after-accepted, after-refused}
+use Rattle.study.proofs.Blocks.{under, study-fine, study-none, study-put, study-clock, after-accepted, after-refused, clock-accepted, clock-refused}
 use Rattle.study.proofs.Saved.{fault-canon, Saved, bytes-canon, long}
 use Rattle.study.proofs.Remains.{open-holds}
 use Rattle.study.proofs.Regular.{Regular, regular}
@@ -129,6 +130,29 @@ module _ (w v : World) (c : Act) (said : SaidAct c) (lent back : Room) (lends : 
           → sent n (v .block) y ≡ cond t (passed (shown r) (w .block)) (sent badStudy (w .block) (g (form c .idle (w .kept)))) → Then
       go true fine q =
           came fine (ap (λ (s : Sent Y). s .refusal) q) (ap (λ (s : Sent Y). s .rest) q) (left-by fine (ap (λ (s : Sent Y). s .block) q))
+      go false fine q = came-not fine (ap (λ (s : Sent Y). s .refusal) q) (ap (λ (s : Sent Y). s .block) q) (ap (λ (s : Sent Y). s .rest) q)
+
+  -- a call that moves the clock alone
+  clock-by : ((q : Record) → regular c .next q (w .kept) ≡ withClock q (regular c .next q (w .kept) .clock)) → blockFine (w .block) ≡ true
+      → v .block ≡ clockAfter (o .refusal) (o .study .clock) (w .block) → LeftAs (o .refusal) (o .study) w v
+  clock-by alone fine e = go (regular c .fault r (w .kept)) refl o (so (regular c .fault r (w .kept)) refl) e
+    where
+      go : (f : ℕ) → regular c .fault r (w .kept) ≡ f → (x : Outcome (form c .Rest)) → x ≡ settle f r (form c .idle (w .kept)) (regular c .next r (w .kept)) (regular c .rest r (w .kept))
+          → v .block ≡ clockAfter (x .refusal) (x .study .clock) (w .block) → LeftAs (x .refusal) (x .study) w v
+      go zero z x i q =
+          let next = regular c .next r (w .kept) in
+          let h = regular c .holds said r (w .kept) (under w fine) z .held in
+          rw i (study-clock w v next fine (h .time) (h .steps) (alone r) ((rw i at q) ∙ clock-accepted (next .clock) (w .block)))
+      go (suc m) z x i q = rw i ((rw i at q) ∙ clock-refused m (r .clock) (w .block))
+
+  pub clock-block : sent n (v .block) y ≡ clockOnBlock shown (w .block) (g (form c .idle (w .kept))) → ((q : Record) → regular c .next q (w .kept) ≡ withClock q (regular c .next q (w .kept) .clock)) → Then
+  unfolding clockOnBlock
+  clock-block e alone = go (blockFine (w .block)) refl e
+    where
+      go : (t : Bool) → blockFine (w .block) ≡ t
+          → sent n (v .block) y ≡ cond t (moved (shown r) (w .block)) (sent badStudy (w .block) (g (form c .idle (w .kept)))) → Then
+      go true fine q =
+          came fine (ap (λ (s : Sent Y). s .refusal) q) (ap (λ (s : Sent Y). s .rest) q) (clock-by alone fine (ap (λ (s : Sent Y). s .block) q))
       go false fine q = came-not fine (ap (λ (s : Sent Y). s .refusal) q) (ap (λ (s : Sent Y). s .block) q) (ap (λ (s : Sent Y). s .rest) q)
 
   -- a call that is lent the block to read leaves it

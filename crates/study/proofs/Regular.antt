@@ -16,7 +16,7 @@ use Rattle.cells.specs.declared.IndexBox.{IndexBox}
 use Rattle.grid.specs.declared.Region.{Region}
 use Rattle.grid.specs.declared.Record.{Record}
 use Rattle.grid.specs.declared.stores.Lengths.{Lengths}
-use Rattle.grid.specs.Edited.{withWalls, withBuilt, withRegion}
+use Rattle.grid.specs.Edited.{withWalls, withBuilt, withRegion, withClock}
 use Rattle.grid.specs.Fault.{first, cornersFit, layerFits as layerFitted, faultOf}
 use Rattle.grid.specs.Canon.{canonMaterial, canonRegion, canon}
 use Rattle.grid.specs.Stores.{Stores, Outcome, outcome, settle, zeros, orElse, storeLengths, sameLengths, lengthsOf, faultLent, faultWith}
@@ -364,6 +364,12 @@ unfolding ran
 ran-counts r [] s = nought _
 ran-counts r (x ∷ xs) s = let e = ran-counts (ticked r) xs (stepped eps0 mu0 c0 r x s) in e ∙ omega arith
 
+-- steps move the clock and nothing else of the record
+ran-clock : (r : Record) (xs : List Float) (s : Stores) → ran eps0 mu0 c0 r xs s .study ≡ withClock r (ran eps0 mu0 c0 r xs s .study .clock)
+unfolding ran
+ran-clock r [] s = refl
+ran-clock r (x ∷ xs) s = ran-clock (ticked r) xs (stepped eps0 mu0 c0 r x s)
+
 many-steps : (xs : List Float) → Regular (form (run xs)) (length xs) (SaidAct (run xs))
 unfolding runCall
 many-steps xs = record {
@@ -481,3 +487,9 @@ pub reads : (n k : ℕ) (r : Record) (s : Stores)
     → (regular (totalEnergy n) .next r s ≡ r) × (regular (planeReading k n) .next r s ≡ r) × (regular (saveLength n) .next r s ≡ r)
 unfolding regular energy plane asked-length
 reads n k r s = (refl, refl, refl)
+
+-- a step and a run move the clock and nothing else of it
+pub moves : (x : Float) (xs : List Float) (r : Record) (s : Stores)
+    → (regular (step x) .next r s ≡ withClock r (regular (step x) .next r s .clock)) × (regular (run xs) .next r s ≡ withClock r (regular (run xs) .next r s .clock))
+unfolding regular one-step many-steps
+moves x xs r s = (refl, ran-clock r xs s)

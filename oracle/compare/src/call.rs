@@ -1,8 +1,9 @@
 //! A call with its arguments, so that both sides can be handed the same one and a history printed.
 
 use std::fmt;
+use std::ops::Range;
 
-use crate::engine::block::Material;
+use crate::engine::block::{self, Material, Region};
 use crate::engine::{Answer, Study};
 use crate::fill::Fill;
 
@@ -85,6 +86,19 @@ pub enum Call {
     /// No call: the caller names other axes as active, in a block whose layer is on. That is how an
     /// axis of few cells gets an active layer.
     PutActive([bool; 3]),
+    /// No call: the caller puts another time into the block, any NaN among them.
+    PutTime(f64),
+    /// No call: the caller sets the built count, up to the material count. That is how it comes to count
+    /// materials of which none has a pole.
+    PutBuilt(u8),
+    /// No call: the caller puts a region into the block, or takes it away. That is how a slab or an
+    /// injector gets corners of its own.
+    PutRegion(Region),
+    /// No call: the caller puts another material into the place of one that stands.
+    PutMaterial {
+        id: usize,
+        material: Material,
+    },
 }
 
 impl Call {
@@ -97,7 +111,27 @@ impl Call {
 
     /// Whether it is the caller's own writing, and no call of the engine.
     pub fn is_by_hand(&self) -> bool {
-        matches!(self, Call::Fill(_) | Call::PutSteps(_) | Call::PutActive(_))
+        matches!(
+            self,
+            Call::Fill(_)
+                | Call::PutSteps(_)
+                | Call::PutActive(_)
+                | Call::PutTime(_)
+                | Call::PutBuilt(_)
+                | Call::PutRegion(_)
+                | Call::PutMaterial { .. }
+        )
+    }
+
+    /// Which bytes of the block it may write where it is accepted: a step the clock, a reading none, any
+    /// other call of the engine all.
+    pub fn written(&self) -> Range<usize> {
+        match self {
+            Call::Step(_) | Call::Run(_) => block::TIME..block::HEAD,
+            Call::TotalEnergy | Call::PlaneReading(_) | Call::SaveLength | Call::Save(_) => 0..0,
+            call if call.is_by_hand() => 0..0,
+            _ => 0..block::LENGTH,
+        }
     }
 }
 
@@ -112,7 +146,7 @@ impl Study {
             } => self.open(*sizes, *pole_slots, *spacings),
             Call::SetMaterial { cells, numbers } => self.set_material(*cells, *numbers),
             Call::AddMaterial(m) => {
-                return self.counted(|study, id| study.add_material(&m.write(), id));
+                return self.counted(|study, id| study.add_material(&m.given(), id));
             }
             Call::AssignBox { id, cells } => self.assign_material_box(*id, *cells),
             Call::AssignHalfspace { id, k0 } => self.assign_material_halfspace_z(*id, *k0),
@@ -147,19 +181,25 @@ impl Study {
             Call::SaveLength => return self.measured(),
             Call::Save(room) => return self.saved(*room),
             Call::Rewind(save) => self.rewind(&save.0),
-            Call::Fill(fill) => {
-                fill.write(self);
-                0
-            }
-            Call::PutSteps(steps) => {
-                self.put_steps(*steps);
-                0
-            }
-            Call::PutActive(axes) => {
-                self.put_active(*axes);
+            by_hand => {
+                self.write_by_hand(by_hand);
                 0
             }
         };
         Answer::new(refusal, 0.0)
+    }
+
+    /// What is no call of the engine, but the caller's own writing.
+    pub fn write_by_hand(&mut self, call: &Call) {
+        match call {
+            Call::Fill(fill) => fill.write(self),
+            Call::PutSteps(steps) => self.put_steps(*steps),
+            Call::PutActive(axes) => self.put_active(*axes),
+            Call::PutTime(time) => self.put_time(*time),
+            Call::PutBuilt(count) => self.put_built(*count),
+            Call::PutRegion(region) => self.put_region(*region),
+            Call::PutMaterial { id, material } => self.put_material(*id, material.clone()),
+            call => panic!("{call:?} is a call of the engine"),
+        }
     }
 }

@@ -1,7 +1,7 @@
 //! Which study, and which call comes next.
 
 use crate::call::{Call, Numbers};
-use crate::engine::block::{Material, Pole, Record};
+use crate::engine::block::{Material, Pole, Record, Region};
 use crate::fill::{Fill, STORES, Store, tables};
 #[cfg(original)]
 use crate::theirs::built_tables;
@@ -10,6 +10,9 @@ use crate::{Mix, Random, engine, save};
 use phyz_em::cpml::CpmlConfig;
 
 const LARGEST_SIDE: u64 = 12;
+/// Sides longer than this one have a share of their own, and then the other two are cut to few cells.
+pub const LONG_SIDE: usize = 24;
+const FEW: usize = 5;
 
 /// The engine moves rows of fewer cells than this one by one, and longer ones in passes: both are to be met.
 pub const LONG_ROW: usize = 16;
@@ -39,8 +42,14 @@ impl Chooser {
         };
         let least = if random.once_in(3) { 4 } else { 1 };
         let mut sizes = [0; 3].map(|_| side(random).max(least));
-        if random.once_in(3) {
-            sizes[row_axis(&sizes)] = LONG_ROW + random.index(9);
+        match random.below(9) {
+            0 | 1 => sizes[row_axis(&sizes)] = LONG_ROW + random.index(9),
+            2 => {
+                sizes = sizes.map(|n| n.min(FEW));
+                let axis = [row_axis(&sizes), random.index(3)][random.index(2)];
+                sizes[axis] = LONG_SIDE + 1 + random.index(40);
+            }
+            _ => {}
         }
         Self {
             sizes,
@@ -77,7 +86,7 @@ impl Chooser {
     pub fn next(&self, random: &mut Random, record: &Record, done: u64) -> Call {
         let kind = match done < self.setup {
             true => 15 + random.below(17),
-            false => random.below(42),
+            false => random.below(45),
         };
         match kind {
             0..=12 => Call::Step(random.number(1.0, self.mix)),
@@ -107,25 +116,71 @@ impl Chooser {
             32 if random.once_in(3) => Call::ResetFields,
             32 => Call::TotalEnergy,
             33 => Call::PlaneReading(self.place(random, self.sizes[2])),
-            34 => self.by_hand(random, record),
-            35..=39 => Call::Fill(Fill {
+            34..=37 => self.by_hand(random, record),
+            38..=42 => Call::Fill(Fill {
                 store: store(random, record),
                 seed: random.bits(),
                 mix: self.mix,
             }),
-            40 => Call::SaveLength,
+            43 => Call::SaveLength,
             _ => self.save(random, record),
         }
     }
 
-    /// Another number of steps, sometimes close to the last, other active axes, or a study opened anew.
+    /// Something put into the block that no call leaves there, or a study opened anew.
     fn by_hand(&self, random: &mut Random, record: &Record) -> Call {
         match random.below(16) {
-            5.. if record.layer_on => Call::PutActive(axes(random)),
-            0 => Call::PutSteps(u32::MAX - random.below(4) as u32),
-            1..=4 => self.opening(),
-            _ => Call::PutSteps(random.bits() as u32 >> random.below(32)),
+            0..=3 if record.layer_on => Call::PutActive(axes(random)),
+            0..=4 => self.put_steps(random),
+            5 => Call::PutTime(random.number(1e-9, self.mix)),
+            6 | 7 => Call::PutTime([random.odd(), random.nan()][random.index(2)]),
+            8..=10 => self.put_built(random, record),
+            11..=13 => Call::PutRegion(self.any_region(random)),
+            14 => self.put_material(random, record),
+            _ => self.opening(),
         }
+    }
+
+    /// Any number of steps, sometimes close to the last.
+    fn put_steps(&self, random: &mut Random) -> Call {
+        Call::PutSteps(match random.below(8) {
+            0 => u32::MAX - random.below(4) as u32,
+            _ => random.bits() as u32 >> random.below(32),
+        })
+    }
+
+    /// All materials built, some of them, or none.
+    fn put_built(&self, random: &mut Random, record: &Record) -> Call {
+        let count = record.material_count;
+        Call::PutBuilt(match random.below(3) {
+            0 => count,
+            _ => random.below(u64::from(count) + 1) as u8,
+        })
+    }
+
+    /// Another material in the place of one that stands; the first has no poles.
+    fn put_material(&self, random: &mut Random, record: &Record) -> Call {
+        let id = random.index(record.material_count.into());
+        let count = match id {
+            0 => 0,
+            _ => random.index(self.pole_slots + 1),
+        };
+        let material = self.material_of(random, count);
+        Call::PutMaterial { id, material }
+    }
+
+    /// A region of any kind, or none, with any corners inside.
+    fn any_region(&self, random: &mut Random) -> Region {
+        let kind = [0, 1, 1, 1, 2, 2, 3][random.index(7)];
+        let mut corners = [0; 6];
+        if kind != 0 {
+            for (pair, n) in corners.chunks_mut(2).zip(self.sizes) {
+                let ends = [0, random.index(n), random.index(n), n - 1];
+                pair.fill_with(|| ends[random.index(4)]);
+                pair.sort();
+            }
+        }
+        Region { kind, corners }
     }
 
     /// Into room of the save's length, or of some more bytes; once in a while of fewer.
@@ -178,18 +233,22 @@ impl Chooser {
 
     fn medium(&self, random: &mut Random) -> [f64; 3] {
         [
-            1.0 + random.above_zero(4.0, self.mix),
-            1.0 + random.above_zero(1.0, self.mix),
+            random.above_one(4.0, self.mix),
+            random.above_one(1.0, self.mix),
             random.above_zero(0.1, self.mix),
         ]
     }
 
     fn material(&self, random: &mut Random) -> Material {
-        let [eps_inf, mu_r, sigma] = self.medium(random);
         let count = match random.once_in(self.refused) {
             true => self.pole_slots + 1 + random.index(5 - self.pole_slots.min(4)),
             false => random.index(self.pole_slots + 1),
         };
+        self.material_of(random, count)
+    }
+
+    fn material_of(&self, random: &mut Random, count: usize) -> Material {
+        let [eps_inf, mu_r, sigma] = self.medium(random);
         Material {
             eps_inf,
             sigma,
@@ -200,18 +259,17 @@ impl Chooser {
     }
 
     /// Frequencies below one over dt, so that the polarizations move and do not explode, or above it,
-    /// where a1 turns its sign.
+    /// where a1 turns its sign. A NaN keeps its bits.
     fn pole(&self, random: &mut Random) -> Pole {
         let dt = self.spacings[3];
         let tag = 1 + random.below(3) as u8;
         let size = [0.3, 0.3, 3.0][random.index(3)];
-        let rate = random.above_zero(size, self.mix) / dt;
-        let gamma = random.above_zero(size, self.mix) / dt;
+        let [rate, gamma] = [0; 2].map(|_| quotient(random.above_zero(size, self.mix), dt));
         let strength = random.above_zero(3.0, self.mix);
         let numbers = match tag {
             1 => [strength, rate, gamma],
             2 => [rate, gamma, 0.0],
-            _ => [strength, 1.0 / gamma, 0.0],
+            _ => [strength, quotient(1.0, gamma), 0.0],
         };
         Pole { tag, numbers }
     }
@@ -302,6 +360,12 @@ impl Chooser {
             _ => Call::BoxRegion([i0, i1, j0, j1, k0, k1]),
         }
     }
+}
+
+/// x over y; where one of them is a NaN, that one with all its bits.
+fn quotient(x: f64, y: f64) -> f64 {
+    let nan = [x, y].into_iter().find(|x| x.is_nan());
+    nan.unwrap_or(x / y)
 }
 
 /// A store to be filled: more often one that a call has cleared and a step reads.

@@ -3,14 +3,22 @@
 use crate::agree;
 use crate::engine::Study;
 
+/// The block, where it is a record with every NaN as the one.
+fn block(study: &Study) -> Vec<u8> {
+    let record = study.record();
+    record.map_or_else(|| study.block.clone(), |record| record.write())
+}
+
 /// Block and stores number by number, with all NaNs counted as one.
 pub fn first_difference(expected: &Study, got: &Study) -> Option<String> {
     let shown = |name: &str, at: usize, width: usize, a: u64, b: u64| {
         format!("{name} at {at}: {b:0width$X} in place of {a:0width$X}")
     };
-    if let Some(at) = first(&expected.block, &got.block, |a, b| a == b) {
-        let (a, b) = (expected.block[at], got.block[at]);
-        return Some(shown("block", at, 2, a.into(), b.into()));
+    if expected.block != got.block {
+        let (a, b) = (block(expected), block(got));
+        if let Some(at) = first(&a, &b, |x, y| x == y) {
+            return Some(shown("block", at, 2, a[at].into(), b[at].into()));
+        }
     }
     for ((name, a), (_, b)) in expected.stores().into_iter().zip(got.stores()) {
         if let Some(at) = first(a, b, |x, y| agree(*x, *y)) {

@@ -18,13 +18,13 @@ unsafe extern "C" {
     pub safe fn cichowiej_stronger(s: f64, v: f64) -> f64;
     fn cichowiej_ade_coeffs(
         tag: u32,
-        x: f64,
-        y: f64,
-        z: f64,
+        first: f64,
+        second: f64,
+        third: f64,
         eps0: f64,
         dt: f64,
         out: *mut f64,
-        len: usize,
+        out_length: usize,
     ) -> bool;
 }
 
@@ -343,6 +343,7 @@ unsafe extern "C" {
 
 /// The three coefficients of a pole (tag 1 Lorentz, 2 Drude, 3 Debye) in `out`, or false.
 pub fn ade_coeffs(tag: u32, numbers: [f64; 3], eps0: f64, dt: f64, out: &mut [f64]) -> bool {
-    let [x, y, z] = numbers;
-    unsafe { cichowiej_ade_coeffs(tag, x, y, z, eps0, dt, out.as_mut_ptr(), out.len()) }
+    let [first, second, third] = numbers;
+    let (to, length) = (out.as_mut_ptr(), out.len());
+    unsafe { cichowiej_ade_coeffs(tag, first, second, third, eps0, dt, to, length) }
 }

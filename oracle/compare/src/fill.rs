@@ -67,9 +67,12 @@ impl Fill {
         }
     }
 
-    /// Ids of materials that stand; once in a while, in one cell, any id at all.
+    /// Ids of materials that stand, or of those that are built; once in a while, in one cell, any id at all.
     fn write_ids(&self, study: &mut Study, random: &mut Random) {
-        let count = study.record().map_or(1, |r| r.material_count.into());
+        let counts = study.record().map(|r| [r.built_count, r.material_count]);
+        let [built, standing] = counts.unwrap_or([0, 1]).map(u64::from);
+        let only_built = built != 0 && random.once_in(2);
+        let count = if only_built { built } else { standing };
         study.ids.fill_with(|| random.below(count) as u32);
         if random.once_in(8) {
             let cell = random.index(study.ids.len());
@@ -83,7 +86,7 @@ impl Fill {
             *x = match at / cells {
                 2 if random.once_in(3) => 0.0,
                 2 => random.above_zero(0.1, self.mix),
-                _ => 1.0 + random.above_zero(4.0, self.mix),
+                _ => random.above_one(4.0, self.mix),
             };
         }
     }

@@ -32,7 +32,7 @@ pub fn refusal(study: &Study, call: &Call) -> u32 {
             spacings,
         } => opening(study, *sizes, *pole_slots, *spacings),
         Call::Rewind(save) => rewinding(study, &save.0),
-        Call::AddMaterial(m) => adding(study, &m.write()),
+        Call::AddMaterial(m) => adding(study, &m.given()),
         call if call.is_by_hand() => 0,
         call => standing(study, call),
     }
@@ -190,8 +190,8 @@ pub fn lent(call: &Call) -> &'static [usize] {
         Call::ResetFields => &[0, 1, 3, 4, 6],
         Call::TotalEnergy => &[0, 1, 2],
         Call::PlaneReading(_) => &[0, 1],
-        Call::AddMaterial(_) | Call::SetPeriodic(_) | Call::SaveLength => &[],
-        Call::Fill(_) | Call::PutSteps(_) | Call::PutActive(_) => &[],
+        // AddMaterial, SetPeriodic and SaveLength have the block alone; the rest are no calls.
+        _ => &[],
     }
 }
 

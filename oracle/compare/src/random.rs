@@ -4,6 +4,10 @@
 pub const FRACTION: u64 = (1 << 52) - 1;
 pub const SIGN: u64 = 1 << 63;
 
+/// The bits of the infinity, and the first of a NaN's fraction, which a quiet one has.
+const INFINITY: u64 = 0x7FF << 52;
+const QUIET: u64 = 1 << 51;
+
 /// Doubles at the edges of the format, as bits: zero, the subnormals' ends, the smallest normal
 /// number, 1, the largest number, the infinity and NaNs.
 pub const EDGES: [u64; 10] = [
@@ -83,9 +87,20 @@ impl Random {
             4 => self.with_field(1, 100),
             5 => self.with_field(1900, 2046),
             6 => f64::from_bits(self.bits()),
-            _ => [f64::NAN, f64::INFINITY][self.index(2)],
+            _ => [self.nan(), f64::INFINITY][self.index(2)],
         };
         if self.once_in(2) { x } else { -x }
+    }
+
+    /// The NaN that is written, or any other one, quiet or signalling, with the sign or without.
+    pub fn nan(&mut self) -> f64 {
+        let fraction = match self.below(3) {
+            0 => QUIET,
+            1 => QUIET + self.below(QUIET),
+            _ => 1 + self.below(QUIET - 1),
+        };
+        let sign = [0, SIGN][self.index(2)];
+        f64::from_bits(sign | INFINITY | fraction)
     }
 
     /// An odd number or a zero, as often as the mix has it.
@@ -107,6 +122,15 @@ impl Random {
     pub fn above_zero(&mut self, size: f64, mix: Mix) -> f64 {
         let special = self.special(mix);
         special.unwrap_or_else(|| size * self.unit().abs())
+    }
+
+    /// Above one and up to one and `size`, or one and a special number. A NaN keeps its bits, of which a sum
+    /// would change some.
+    pub fn above_one(&mut self, size: f64, mix: Mix) -> f64 {
+        match self.above_zero(size, mix) {
+            x if x.is_nan() => x,
+            x => 1.0 + x,
+        }
     }
 }
 

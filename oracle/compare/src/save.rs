@@ -114,12 +114,12 @@ impl<'a> Reader<'a> {
 
     /// GH and ML. What 1 to 3 say of GH's own fields is judged before ML is looked at.
     fn record(&mut self) -> Result<Record, u32> {
-        let head = block::read_head(self.take(MARKS[0], HEAD)?);
+        let head = block::saved_head(self.take(MARKS[0], HEAD)?);
         let sound = head.filter(|record| judge::head_fault(record) == 0);
         let mut record = sound.ok_or(BAD_RECORD)?;
         let library = self.take(MARKS[1], payloads(&record)[1])?;
         for entry in library.chunks(MATERIAL) {
-            let material = block::read_material(entry).ok_or(BAD_RECORD)?;
+            let material = block::saved_material(entry).ok_or(BAD_RECORD)?;
             record.materials.push(material);
         }
         match judge::fault(&record) {

@@ -48,7 +48,7 @@ pub fn grown(random: &mut Random, chooser: &Chooser) -> Study {
 pub fn by_hand(random: &mut Random, sizes: [usize; 3]) -> Study {
     let record = record(random, sizes);
     let mut study = Study::lent(sizes, record.pole_slots.into());
-    study.block = record.write();
+    study.block = record.given();
     for store in study.stores_mut() {
         store.fill_with(|| random.number(1.0, ODD));
     }

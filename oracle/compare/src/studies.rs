@@ -2,6 +2,10 @@
 
 mod tally;
 
+use std::sync::Mutex;
+use std::sync::atomic::{AtomicU64, Ordering};
+use std::thread;
+
 use crate::call::Call;
 use crate::choose::Chooser;
 use crate::difference::first_difference;
@@ -10,6 +14,39 @@ use crate::theirs::Theirs;
 use crate::{Random, complaint, judge};
 
 pub use tally::Tally;
+
+/// Plays the studies of the seeds below a number on all cores. Of those that fail, it is the lowest seed's
+/// whose difference is told.
+pub fn play_all(studies: u64) -> Tally {
+    let next = AtomicU64::new(0);
+    let failed = Mutex::new((studies, String::new()));
+    let work = || {
+        let mut tally = Tally::default();
+        loop {
+            let seed = next.fetch_add(1, Ordering::Relaxed);
+            if seed >= failed.lock().unwrap().0 {
+                return tally;
+            }
+            if let Some(said) = complaint(|| play(seed, &mut tally)) {
+                let mut failed = failed.lock().unwrap();
+                if seed < failed.0 {
+                    *failed = (seed, said);
+                }
+            }
+        }
+    };
+    let mut all = Tally::default();
+    thread::scope(|scope| {
+        let cores = thread::available_parallelism().map_or(1, |n| n.get());
+        let workers: Vec<_> = (0..cores).map(|_| scope.spawn(work)).collect();
+        for worker in workers {
+            all.join(worker.join().unwrap());
+        }
+    });
+    let (lowest, said) = failed.into_inner().unwrap();
+    assert!(lowest == studies, "{said}");
+    all
+}
 
 /// Plays the study of a seed. A difference says the seed, the calls up to it and the first number.
 pub fn play(seed: u64, tally: &mut Tally) {
@@ -68,6 +105,7 @@ impl Pair {
     /// One call on both, and everything compared.
     fn both(&mut self, call: Call, history: &mut Vec<Call>, tally: &mut Tally) {
         history.push(call.clone());
+        tally.count_block(&call, &self.ours);
         let expected = self.theirs.apply(&call);
         let got = self.ours.apply(&call);
         self.check(&expected, &got);
@@ -85,5 +123,7 @@ impl Pair {
         if let Some(difference) = first_difference(&self.theirs.expected, &self.ours) {
             panic!("{difference}");
         }
+        let same = self.ours.block == self.theirs.expected.block;
+        assert!(same, "a NaN in the block has other bits");
     }
 }

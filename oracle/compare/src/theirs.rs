@@ -2,6 +2,7 @@
 //! engine has to hold after each.
 
 mod arrays;
+mod by_hand;
 mod materials;
 
 use phyz_em::boundary::BoundaryCondition;
@@ -50,7 +51,8 @@ impl Theirs {
         theirs.expected.poles.fill(0.0);
         theirs.expected.aux.fill(0.0);
         theirs.open_layer();
-        theirs.read();
+        theirs.read_arrays();
+        theirs.expected.block = theirs.record().write();
         theirs
     }
 
@@ -61,7 +63,10 @@ impl Theirs {
             0 => self.perform(call),
             _ => 0.0,
         };
-        self.read();
+        self.read_arrays();
+        if refusal == 0 {
+            self.write_block(call.written());
+        }
         Answer {
             room: self.room(call, refusal),
             ..Answer::new(refusal, further)
@@ -137,17 +142,7 @@ impl Theirs {
             Call::SaveLength => return save::length(&self.record()) as f64,
             Call::Save(_) => {}
             Call::Rewind(_) => panic!("the original has no saves to go back to"),
-            Call::Fill(fill) => {
-                fill.write(&mut self.expected);
-                self.write();
-            }
-            Call::PutSteps(steps) => self.steps = *steps,
-            Call::PutActive(axes) => {
-                let layer = grid.cpml.as_mut().unwrap();
-                for (axis, active) in layer.axis.iter_mut().zip(axes) {
-                    axis.active = *active;
-                }
-            }
+            by_hand => self.write_by_hand(by_hand),
         }
         0.0
     }

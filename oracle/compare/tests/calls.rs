@@ -1,7 +1,7 @@
 //! Random studies on the engine and on the original: after every call, block and stores are equal.
 //!
-//! CICHOWIEJ_STUDIES sets their number (`make compare-long`: 20,000), and CICHOWIEJ_SEED plays the
-//! one study of a seed that a failure has named.
+//! CICHOWIEJ_STUDIES sets their number, and CICHOWIEJ_SEED plays the one study of a seed that a failure
+//! has named.
 
 #[cfg(not(original))]
 #[test]
@@ -10,22 +10,20 @@ fn studies() {}
 
 #[cfg(original)]
 mod original {
-    use compare::studies::{Tally, play};
+    use compare::studies::{Tally, play, play_all};
     use compare::variable;
 
-    const STUDIES: u64 = 1_000;
+    const STUDIES: u64 = 20_000;
 
     #[test]
     fn studies() {
-        let mut tally = Tally::default();
         if let Some(seed) = variable("CICHOWIEJ_SEED") {
+            let mut tally = Tally::default();
             play(seed, &mut tally);
             return tally.report();
         }
         let studies = variable("CICHOWIEJ_STUDIES").unwrap_or(STUDIES);
-        for seed in 0..studies {
-            play(seed, &mut tally);
-        }
+        let tally = play_all(studies);
         tally.report();
         assert!(tally.is_varied() || studies < STUDIES);
     }

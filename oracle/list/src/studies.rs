@@ -97,7 +97,7 @@ const FULL: Kind = Kind {
 
 /// The studies in their order.
 pub fn all() -> Vec<Kind> {
-    [walls(), layers(), waves(), poles(), together()].concat()
+    [walls(), layers(), waves(), poles(), together(), long_rows()].concat()
 }
 
 /// Walls, grids one cell wide, and every mix of numbers.
@@ -234,4 +234,74 @@ fn together() -> Vec<Kind> {
             ..FULL
         },
     ]
+}
+
+/// Rows of 16 cells and more, which the engine takes in passes: along x, along y and along z.
+fn long_rows() -> Vec<Kind> {
+    let x = Row {
+        thin: [18, 1, 1],
+        wide: [16, 2, 2],
+        along: X,
+        across: YZ,
+        wave: Wave::Inside([3, 15, 0, 0, 0, 0]),
+    };
+    let y = Row {
+        thin: [1, 18, 1],
+        wide: [1, 18, 2],
+        along: Y,
+        across: XZ,
+        wave: Wave::Slab(0, 0),
+    };
+    let z = Row {
+        thin: [1, 1, 18],
+        wide: [1, 1, 17],
+        along: Z,
+        across: XY,
+        wave: Wave::Slab(5, 12),
+    };
+    [x, y, z].into_iter().flat_map(Row::studies).collect()
+}
+
+/// The axis that rows lie along and the other two, a grid of one row and one of more where there can be
+/// more, and a region in the row.
+struct Row {
+    thin: [usize; 3],
+    wide: [usize; 3],
+    along: [bool; 3],
+    across: [bool; 3],
+    wave: Wave,
+}
+
+impl Row {
+    /// With walls at the row's ends and without, with the layer along the row and across it, with poles, and
+    /// with a wave.
+    fn studies(self) -> Vec<Kind> {
+        let with = |sizes, periodic, layer, mix| Kind {
+            sizes,
+            periodic,
+            layer,
+            mix,
+            ..BARE
+        };
+        let thin = |layer, mix| with(self.thin, self.across, layer, mix);
+        let built = Layer::Built(self.along, 3);
+        vec![
+            with(self.wide, self.across, Layer::Absent, PLAIN),
+            with(self.wide, self.along, Layer::Absent, FEW),
+            with(self.wide, ALL, Layer::Named(ALL), PLAIN),
+            with(self.thin, ALL, Layer::Named(self.across), SOME),
+            thin(built, PLAIN),
+            thin(Layer::Given(self.along, 5), ZEROS),
+            Kind {
+                tags: &[&[1, 2], &[3]],
+                ..thin(Layer::Absent, PLAIN)
+            },
+            Kind {
+                tags: &[&[3]],
+                wave: self.wave,
+                samples: 3,
+                ..thin(built, PLAIN)
+            },
+        ]
+    }
 }

@@ -3,7 +3,7 @@ ghost use mathlib.Core.Path.{_≡_};
 ghost use Rattle.grid.specs.Stores.{outcome};
 ghost use Rattle.materials.specs.Materials.{setMaterialCall, assignBoxCall, placed, halfspace, buildCall};
 ghost use Rattle.calls.specs.Blocks.{sent, onBlock, answered, answering, addBytesCall};
-use crate::blocks;
+use calls::blocks;
 use cells::IndexBox;
 use grid::Record;
 use grid::fault;

@@ -4,7 +4,7 @@ ghost use Rattle.root.specs.Constants.{eps0, mu0};
 ghost use Rattle.root.specs.Rounded.{zeroF};
 ghost use Rattle.fields.specs.Fields.{energyCall, planeCall};
 ghost use Rattle.calls.specs.Blocks.{told, readBlock, answered, answering};
-use crate::blocks;
+use calls::blocks;
 use fields::readings;
 use grid::fault::BAD_STUDY;
 

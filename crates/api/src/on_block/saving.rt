@@ -3,7 +3,7 @@ ghost use mathlib.Core.Path.{_≡_};
 ghost use Rattle.grid.specs.Stores.{stores};
 ghost use Rattle.format.specs.Save.{lengthCall, saveCall};
 ghost use Rattle.calls.specs.Blocks.{sent, told, readBlock, rewindOnBlock, answered, answering};
-use crate::blocks;
+use calls::blocks;
 use grid::Record;
 use grid::fault::BAD_STUDY;
 use grid::stores;
@@ -23,13 +23,13 @@ pub fn save_length(b: &[u8], length: &mut [usize]) -> u32
     o.refusal
 }
 
-pub fn save(
+pub fn save<'a>(
     b: &[u8],
     e: &[f64],
     h: &[f64],
     media: &[f64],
-    psi_e: &[f64],
-    psi_h: &[f64],
+    psi_e: &'a [f64],
+    psi_h: &'a [f64],
     tables: &[f64],
     poles: &[f64],
     aux: &[f64],

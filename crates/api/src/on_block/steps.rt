@@ -4,8 +4,8 @@ ghost use Rattle.root.specs.Constants.{eps0, mu0, c0};
 ghost use Rattle.grid.specs.Stores.{stores};
 ghost use Rattle.step.specs.Step.{stepCall};
 ghost use Rattle.run.specs.Run.{runCall};
-ghost use Rattle.calls.specs.Blocks.{sent, onBlock};
-use crate::blocks;
+ghost use Rattle.calls.specs.Blocks.{sent, clockOnBlock};
+use calls::blocks;
 use grid::fault::BAD_STUDY;
 use root::C0;
 use root::EPS0;
@@ -24,13 +24,13 @@ pub fn step(
     aux: &mut [f64],
     ids: &[u32],
 ) -> u32
-    ensures { λ n. ⌜ sent n (now (b .exit)) (stores (now (e .exit)) (now (h .exit)) (now (media .entry)) (now («psi_e» .exit)) (now («psi_h» .exit)) (now (tables .entry)) (now (poles .exit)) (now (aux .exit)) (now (ids .entry))) ≡ onBlock (λ r. stepCall eps0 mu0 c0 r sample (stores (now (e .entry)) (now (h .entry)) (now (media .entry)) (now («psi_e» .entry)) (now («psi_h» .entry)) (now (tables .entry)) (now (poles .entry)) (now (aux .entry)) (now (ids .entry)))) (now (b .entry)) (stores (now (e .entry)) (now (h .entry)) (now (media .entry)) (now («psi_e» .entry)) (now («psi_h» .entry)) (now (tables .entry)) (now (poles .entry)) (now (aux .entry)) (now (ids .entry))) ⌝ }
+    ensures { λ n. ⌜ sent n (now (b .exit)) (stores (now (e .exit)) (now (h .exit)) (now (media .entry)) (now («psi_e» .exit)) (now («psi_h» .exit)) (now (tables .entry)) (now (poles .exit)) (now (aux .exit)) (now (ids .entry))) ≡ clockOnBlock (λ r. stepCall eps0 mu0 c0 r sample (stores (now (e .entry)) (now (h .entry)) (now (media .entry)) (now («psi_e» .entry)) (now («psi_h» .entry)) (now (tables .entry)) (now (poles .entry)) (now (aux .entry)) (now (ids .entry)))) (now (b .entry)) (stores (now (e .entry)) (now (h .entry)) (now (media .entry)) (now («psi_e» .entry)) (now («psi_h» .entry)) (now (tables .entry)) (now (poles .entry)) (now (aux .entry)) (now (ids .entry))) ⌝ }
 {
     if !block::is_record(b) {
         return BAD_STUDY;
     }
     let r = block::get_record(b);
-    let o = step::step(
+    let o = clock::step_record(
         EPS0,
         MU0,
         C0,
@@ -46,7 +46,7 @@ pub fn step(
         aux,
         ids,
     );
-    blocks::keep(b, o.refusal, o.study);
+    blocks::keep_clock(b, o.refusal, o.clock);
     o.refusal
 }
 
@@ -63,7 +63,7 @@ pub fn run(
     aux: &mut [f64],
     ids: &[u32],
 ) -> u32
-    ensures { λ n. ⌜ sent n (now (b .exit)) (stores (now (e .exit)) (now (h .exit)) (now (media .entry)) (now («psi_e» .exit)) (now («psi_h» .exit)) (now (tables .entry)) (now (poles .exit)) (now (aux .exit)) (now (ids .entry))) ≡ onBlock (λ r. runCall eps0 mu0 c0 r (now (samples .entry)) (stores (now (e .entry)) (now (h .entry)) (now (media .entry)) (now («psi_e» .entry)) (now («psi_h» .entry)) (now (tables .entry)) (now (poles .entry)) (now (aux .entry)) (now (ids .entry)))) (now (b .entry)) (stores (now (e .entry)) (now (h .entry)) (now (media .entry)) (now («psi_e» .entry)) (now («psi_h» .entry)) (now (tables .entry)) (now (poles .entry)) (now (aux .entry)) (now (ids .entry))) ⌝ }
+    ensures { λ n. ⌜ sent n (now (b .exit)) (stores (now (e .exit)) (now (h .exit)) (now (media .entry)) (now («psi_e» .exit)) (now («psi_h» .exit)) (now (tables .entry)) (now (poles .exit)) (now (aux .exit)) (now (ids .entry))) ≡ clockOnBlock (λ r. runCall eps0 mu0 c0 r (now (samples .entry)) (stores (now (e .entry)) (now (h .entry)) (now (media .entry)) (now («psi_e» .entry)) (now («psi_h» .entry)) (now (tables .entry)) (now (poles .entry)) (now (aux .entry)) (now (ids .entry)))) (now (b .entry)) (stores (now (e .entry)) (now (h .entry)) (now (media .entry)) (now («psi_e» .entry)) (now («psi_h» .entry)) (now (tables .entry)) (now (poles .entry)) (now (aux .entry)) (now (ids .entry))) ⌝ }
 {
     if !block::is_record(b) {
         return BAD_STUDY;
@@ -85,6 +85,6 @@ pub fn run(
         aux,
         ids,
     );
-    blocks::keep(b, o.refusal, o.study);
+    blocks::keep_clock(b, o.refusal, o.clock);
     o.refusal
 }

@@ -3,7 +3,7 @@ ghost use mathlib.Core.Path.{_≡_};
 ghost use Rattle.grid.specs.Stores.{stores};
 ghost use Rattle.fields.specs.Fields.{reset, resetCall};
 ghost use Rattle.calls.specs.Blocks.{sent, onBlock, openOnBlock};
-use crate::blocks;
+use calls::blocks;
 use fields::reset;
 use grid::fault;
 use grid::fault::BAD_STUDY;

@@ -6,9 +6,9 @@ ghost use Rattle.opening.specs.Layer.{layer};
 ghost use Rattle.boundary.specs.Walls.{setPeriodicCall, setPlainCall, lossed, setLossyCall};
 ghost use Rattle.cpml.specs.Absorber.{setCpmlCall};
 ghost use Rattle.calls.specs.Blocks.{sent, onBlock, answered, naming, named};
-use crate::blocks;
 use boundary::LossyAbsorber;
 use boundary::walls;
+use calls::blocks;
 use cpml::absorber;
 use grid::fault::BAD_STUDY;
 

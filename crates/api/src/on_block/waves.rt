@@ -3,7 +3,7 @@ ghost use mathlib.Core.Path.{_≡_};
 ghost use Rattle.grid.specs.declared.RegionKind.the-variants.{BoxRegion};
 ghost use Rattle.tfsf.specs.Wave.{slabZ, injectorZ, regionCall};
 ghost use Rattle.calls.specs.Blocks.{sent, onBlock};
-use crate::blocks;
+use calls::blocks;
 use grid::fault::BAD_STUDY;
 use tfsf::region;
 

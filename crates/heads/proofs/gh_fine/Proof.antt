@@ -1,12 +1,12 @@
-use Rattle.heads.specs.Numbers.{ghFine}
 use mathlib.Core.Path.{refl}
+use Rattle.heads.specs.Numbers.{ghFine}
 use borrow.Author.Needs.{needs}
 use Rattle.heads.proofs.gh_fine.Statement.{statement}
 use Rattle.heads.proofs.gh_fine.Tie as tie
 
 returns : tie.Need-returns
 unfolding ghFine
-returns c = rw (c .is-fine5 .ensures, c .before .corners-fine .ensures, c .before .before .flags-fine .ensures, c .before .before .before .is-fine4 .ensures, c .before .before .before .before .is-fine3 .ensures, c .before .before .before .before .before .is-fine2 .ensures, c .before .before .before .before .before .before .is-fine .ensures) refl
+returns c = rw (c .is-fine5 .ensures, c .before .gh-shaped .ensures, c .before .before .is-fine4 .ensures, c .before .before .before .is-fine3 .ensures, c .before .before .before .before .is-fine2 .ensures, c .before .before .before .before .before .is-fine .ensures) refl
 
 pub gh-fine-spec : {M : Type 1} → statement M
 gh-fine-spec =
@@ -19,7 +19,6 @@ gh-fine-spec =
     (λ c. search needs)
     (λ c κs. search needs)
     (λ c. search needs)
-    (λ c κs. search needs)
     (λ c κs. search needs)
     (λ c κs. search needs)
     (λ c. search needs)

@@ -6,7 +6,7 @@ use Rattle.heads.proofs.ml_fine.Tie as tie
 
 returns : tie.Need-returns
 unfolding mlFine
-returns c = rw (c .slot-fine4 .ensures, c .before .slot-fine3 .ensures, c .before .before .slot-fine2 .ensures, c .before .before .before .slot-fine .ensures, c .before .before .before .before .is-fine3 .ensures, c .before .before .before .before .before .is-fine2 .ensures, c .before .before .before .before .before .before .is-fine .ensures) refl
+returns c = rw (c .ml-shaped .ensures, c .before .three-fine5 .ensures, c .before .before .three-fine4 .ensures, c .before .before .before .three-fine3 .ensures, c .before .before .before .before .three-fine2 .ensures, c .before .before .before .before .before .three-fine .ensures) refl
 
 pub ml-fine-spec : {M : Type 1} → statement M
 ml-fine-spec =
@@ -14,12 +14,8 @@ ml-fine-spec =
     (tie.spec
     (λ c. search needs)
     (λ c. search needs)
-    (λ c κs. search needs)
     (λ c. search needs)
     (λ c κs. search needs)
-    (λ c. search needs)
-    (λ c κs. search needs)
-    (λ c. search needs)
     (λ c. search needs)
     (λ c. search needs)
     (λ c. search needs)
@@ -27,16 +23,14 @@ ml-fine-spec =
     (λ c. search needs)
     (λ c. search needs)
     (λ c. search needs)
+    (λ c κs. search needs)
+    (λ c. search needs)
+    (λ c. search needs)
     (λ c. search needs)
     (λ c κs. search needs)
     (λ c. search needs)
     (λ c. search needs)
     (λ c. search needs)
-    (λ c. search needs)
     (λ c κs. search needs)
-    (λ c. search needs)
-    (λ c. search needs)
-    (λ c. search needs)
-    (λ c. search needs)
     (λ c κs. search needs)
     returns)

@@ -1,13 +1,15 @@
-use mathlib.Core.Path.{_≡_, refl, _∙_}
+use mathlib.Core.Path.{_≡_, refl, ap, _∙_}
 use Prim.Native.Nat.{_≤_, _+_, _-_}
 use native.Mathlib.Omega.{arith}
 use lib.ListN.{length, drop}
 use borrow.Author.Needs.{needs}
+use Rattle.grid.specs.declared.Clock.{Clock}
+use Rattle.grid.specs.Edited.{withClock}
 use Rattle.grid.specs.Stores.{stores}
 use Rattle.step.specs.Step.{lastStep}
 use Rattle.step.specs.Ready.{Ready}
 use Rattle.run.specs.Run.{ran}
-use Rattle.run.proofs.Runs.{goes, ends, still-ready, less-left}
+use Rattle.run.proofs.Runs.{goes, ends, by-clock, still-ready, less-left}
 use Rattle.run.proofs.advance_all.Statement.{statement}
 use Rattle.run.proofs.advance_all.Tie as tie
 
@@ -36,11 +38,12 @@ advance-requires c κs = let w = c .before .before .before .before .before .befo
 loop-again : tie.Need-loop-again Inv-loop μ-loop
 loop-again c =
     let w = c .before .before .before .before .before .before .before .before .before .before .before .before .before .before .before .before .before .before .before .before .before .loop .inv in
-    let o = c .before .before .before .before .before .before .before .before .before .before .before .before .advance .ensures in (
+    let o = c .before .before .before .before .before .before .before .before .before .before .before .before .advance .ensures in
+    let q = ap (λ (t : Clock). withClock (c .before .before .before .before .before .before .before .before .before .before .before .before .before .before .before .before .before .before .before .before .before .loop .q) t) (o .0) in (
       omega (arith, c .before .before .before .before .before .before .before .before .before .before .before .before .before .before .before .before .before .before .before .before .loop-test .taken),
-      goes _ _ _ (c .before .before .before .before .before .before .before .before .before .before .before .before .before .before .before .before .before .before .before .before .before .before .before .before .before .before .before .before .before .before .before .before .args .samples .now) _ _ _ _ (c .before .before .before .before .before .before .before .before .before .before .before .before .before .before .before .before .before .before .before .before .before .loop .i) (w .1) (c .before .before .before .before .before .before .before .before .before .before .before .before .before .before .before .before .before .before .before .before .loop-test .taken) (o .0) (o .1),
-      still-ready _ _ (o .0) (w .2) (c .before .before .before .before .before .before .before .before .before .before .before .before .advance .kept .1 .1 .1 .1 .1 .0) (c .before .before .before .before .before .before .before .before .before .before .before .before .advance .kept .1 .1 .1 .1 .1 .1 .0) (c .before .before .before .before .before .before .before .before .before .before .before .before .advance .kept .1 .1 .1 .1 .1 .1 .1 .1 .0) (c .before .before .before .before .before .before .before .before .before .before .before .before .advance .kept .1 .1 .1 .1 .1 .1 .1 .1 .1 .0) (c .before .before .before .before .before .before .before .before .before .before .before .before .advance .kept .1 .1 .1 .1 .1 .1 .1 .1 .1 .1 .1 .0) (c .before .before .before .before .before .before .before .before .before .before .before .before .advance .kept .1 .1 .1 .1 .1 .1 .1 .1 .1 .1 .1 .1 .0),
-      less-left _ _ (o .0) _ _ (c .before .before .before .before .before .before .before .before .before .before .before .before .before .before .before .before .before .before .before .before .loop-test .taken) (w .3),
+      goes _ _ _ (c .before .before .before .before .before .before .before .before .before .before .before .before .before .before .before .before .before .before .before .before .before .before .before .before .before .before .before .before .before .before .before .before .args .samples .now) _ _ _ _ (c .before .before .before .before .before .before .before .before .before .before .before .before .before .before .before .before .before .before .before .before .before .loop .i) (w .1) (c .before .before .before .before .before .before .before .before .before .before .before .before .before .before .before .before .before .before .before .before .loop-test .taken) q (o .1),
+      still-ready _ _ q (w .2) (c .before .before .before .before .before .before .before .before .before .before .before .before .advance .kept .1 .1 .1 .1 .1 .0) (c .before .before .before .before .before .before .before .before .before .before .before .before .advance .kept .1 .1 .1 .1 .1 .1 .0) (c .before .before .before .before .before .before .before .before .before .before .before .before .advance .kept .1 .1 .1 .1 .1 .1 .1 .1 .0) (c .before .before .before .before .before .before .before .before .before .before .before .before .advance .kept .1 .1 .1 .1 .1 .1 .1 .1 .1 .0) (c .before .before .before .before .before .before .before .before .before .before .before .before .advance .kept .1 .1 .1 .1 .1 .1 .1 .1 .1 .1 .1 .0) (c .before .before .before .before .before .before .before .before .before .before .before .before .advance .kept .1 .1 .1 .1 .1 .1 .1 .1 .1 .1 .1 .1 .0),
+      less-left _ _ q _ _ (c .before .before .before .before .before .before .before .before .before .before .before .before .before .before .before .before .before .before .before .before .loop-test .taken) (w .3),
       c .before .before .before .before .before .before .before .before .before .before .before .before .advance .kept .1 .1 .1 .1 .1 .0 ∙ w .4,
       c .before .before .before .before .before .before .before .before .before .before .before .before .advance .kept .1 .1 .1 .1 .1 .1 .0 ∙ w .5,
       c .before .before .before .before .before .before .before .before .before .before .before .before .advance .kept .1 .1 .1 .1 .1 .1 .1 .1 .0 ∙ w .6,
@@ -50,7 +53,9 @@ loop-again c =
     )
 
 returns : tie.Need-returns Inv-loop μ-loop
-returns c = ends _ _ _ (c .before .before .before .before .before .before .before .before .before .before .before .before .args .samples .now) _ _ (c .before .loop .i) (c .before .loop .inv .1) (search needs)
+returns c =
+    let loop = c .before .before .loop in
+    by-clock _ _ _ (c .before .before .before .before .before .before .before .before .before .before .before .before .before .args .r) (loop .q) (c .before .before .before .before .before .before .before .before .before .before .before .before .before .args .samples .now) _ _ (ends _ _ _ (c .before .before .before .before .before .before .before .before .before .before .before .before .before .args .samples .now) (loop .q) _ (loop .i) (loop .inv .1) (search needs))
 
 pub advance-all-spec : {M : Type 1} → statement M
 advance-all-spec =
@@ -65,10 +70,10 @@ advance-all-spec =
     (λ c. omega (arith, c .before .before .before .before .before .before .before .before .before .before .before .before .before .before .before .before .before .before .before .before .loop-test .taken, c .before .before .before .before .before .before .before .before .before .before .before .before .before .before .before .before .before .before .before .before .before .before .before .before .before .before .before .before .before .before .before .before .good .1 .1 .1 .1 .0))
     (λ c. omega (arith, c .before .before .before .before .before .before .before .before .before .before .before .before .before .before .before .before .before .before .before .before .loop-test .taken))
     loop-again
-    (λ c. c .before .loop .inv .4)
-    (λ c. c .before .loop .inv .5)
-    (λ c. c .before .loop .inv .6)
-    (λ c. c .before .loop .inv .7)
-    (λ c. c .before .loop .inv .8)
-    (λ c. c .before .loop .inv .9)
+    (λ c. c .before .before .loop .inv .4)
+    (λ c. c .before .before .loop .inv .5)
+    (λ c. c .before .before .loop .inv .6)
+    (λ c. c .before .before .loop .inv .7)
+    (λ c. c .before .before .loop .inv .8)
+    (λ c. c .before .before .loop .inv .9)
     returns)

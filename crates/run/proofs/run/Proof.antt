@@ -9,7 +9,7 @@ use Rattle.run.proofs.run.Tie as tie
 
 returns : tie.Need-returns
 unfolding runCall
-returns c = turned-down _ _ _ _ _ _ (c .before .step-fault .ensures) (c .if1 .taken)
+returns c = turned-down _ _ _ _ _ _ (c .before .before .step-fault .ensures) (c .before .if1 .taken)
 
 advance-all-requires : tie.Need-advance-all-requires
 advance-all-requires c κs = ready _ _ _ (sym (c .before .before .before .before .before .before .before .step-fault .ensures) ∙ c .before .before .before .before .before .before .if1 .left)

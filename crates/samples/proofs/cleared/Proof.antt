@@ -21,6 +21,7 @@ cleared-spec =
     (λ c. omega arith)
     (λ c. search needs)
     (λ c. omega arith)
+    (λ c κs. search needs)
     (λ c. tt)
     (λ c. search needs)
     (λ c. omega arith)

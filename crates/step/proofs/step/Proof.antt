@@ -1,5 +1,7 @@
-use mathlib.Core.Path.{sym, _∙_}
+use mathlib.Core.Path.{sym, ap, _∙_}
 use borrow.Author.Needs.{needs}
+use Rattle.grid.specs.declared.Clock.{Clock}
+use Rattle.grid.specs.Edited.{withClock}
 use Rattle.grid.proofs.Settled.{turned-down, taken-up}
 use Rattle.step.specs.Step.{stepCall}
 use Rattle.step.proofs.Judged.{ready}
@@ -17,7 +19,7 @@ advance-requires c κs =
 
 returns-2 : tie.Need-returns-2
 unfolding stepCall
-returns-2 c = let q = c .before .before .before .before .before .before .before .before .before .before .before .before .advance .ensures in taken-up _ _ _ _ _ _ _ _ (c .before .before .before .before .before .before .before .before .before .before .before .before .before .before .before .before .before .before .before .before .step-fault .ensures) (c .before .before .before .before .before .before .before .before .before .before .before .before .before .before .before .before .before .before .before .if1 .left) (q .0) (q .1)
+returns-2 c = let q = c .before .before .before .before .before .before .before .before .before .before .before .before .advance .ensures in taken-up _ _ _ _ _ _ _ _ (c .before .before .before .before .before .before .before .before .before .before .before .before .before .before .before .before .before .before .before .before .step-fault .ensures) (c .before .before .before .before .before .before .before .before .before .before .before .before .before .before .before .before .before .before .before .if1 .left) (ap (λ (t : Clock). withClock (c .before .before .before .before .before .before .before .before .before .before .before .before .before .before .before .before .before .before .before .before .before .before .before .before .before .before .before .before .before .before .args .r) t) (q .0)) (q .1)
 
 pub step-spec : {M : Type 1} → statement M
 step-spec =

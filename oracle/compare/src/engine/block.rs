@@ -5,13 +5,14 @@ pub const HEAD: usize = 73;
 pub const MATERIAL: usize = 125;
 pub const MATERIALS: usize = 16;
 pub const PLACES: usize = 4;
-/// Where the active flags and the steps stand.
+/// Where the active flags, the time and the steps stand; the clock ends where the head does.
 pub const ACTIVE: usize = 9;
+pub const TIME: usize = 61;
 pub const STEPS: usize = 69;
 /// Where doubles stand in the head, and in a material up to its first place.
 pub const DOUBLES: [usize; 5] = [29, 37, 45, 53, 61];
 
-/// The one NaN that stands in blocks and saves.
+/// The one NaN that is written, and the only one that may stand in a save.
 pub const NAN: u64 = 0x7FF8_0000_0000_0000;
 
 /// A pole as its tag (1 Lorentz, 2 Drude, 3 Debye) and three numbers.
@@ -55,10 +56,12 @@ pub struct Record {
     pub materials: Vec<Material>,
 }
 
-/// Takes numbers off the front of bytes; what cannot be in a block makes `fine` false.
+/// Takes numbers off the front of bytes; what cannot be in a block makes `fine` false, and a NaN
+/// that cannot be in a save `one_nan`.
 struct Reader<'a> {
     bytes: &'a [u8],
     fine: bool,
+    one_nan: bool,
 }
 
 impl Reader<'_> {
@@ -74,11 +77,10 @@ impl Reader<'_> {
         n == 1
     }
 
-    /// The one NaN is the only one that may stand in a block.
     fn double(&mut self) -> f64 {
         let bits = self.number(8);
         let x = f64::from_bits(bits);
-        self.fine &= !x.is_nan() || bits == NAN;
+        self.one_nan &= !x.is_nan() || bits == NAN;
         x
     }
 
@@ -136,24 +138,40 @@ impl Reader<'_> {
     }
 }
 
-/// The head of a block read, with no material in the record; none where it is no head.
-pub fn read_head(bytes: &[u8]) -> Option<Record> {
-    if bytes.len() != HEAD {
+/// What so many bytes say, and whether a save may say it too: a block and a material's bytes may have
+/// any NaN. None where the bytes say nothing.
+fn read<T>(bytes: &[u8], length: usize, take: fn(&mut Reader) -> T) -> Option<(T, bool)> {
+    if bytes.len() != length {
         return None;
     }
-    let mut reader = Reader { bytes, fine: true };
-    let record = reader.head();
-    reader.fine.then_some(record)
+    let mut reader = Reader {
+        bytes,
+        fine: true,
+        one_nan: true,
+    };
+    let said = take(&mut reader);
+    reader.fine.then_some((said, reader.one_nan))
 }
 
-/// A material's bytes read; none where they are no material's.
+/// The head of a block, with no material in the record.
+fn read_head(bytes: &[u8]) -> Option<Record> {
+    read(bytes, HEAD, |r| r.head()).map(|(head, _)| head)
+}
+
 pub fn read_material(bytes: &[u8]) -> Option<Material> {
-    if bytes.len() != MATERIAL {
-        return None;
-    }
-    let mut reader = Reader { bytes, fine: true };
-    let material = reader.material();
-    reader.fine.then_some(material)
+    read(bytes, MATERIAL, |r| r.material()).map(|(material, _)| material)
+}
+
+/// A save's GH, with no material in the record.
+pub fn saved_head(bytes: &[u8]) -> Option<Record> {
+    let (head, one_nan) = read(bytes, HEAD, |r| r.head())?;
+    one_nan.then_some(head)
+}
+
+/// A material of a save's ML.
+pub fn saved_material(bytes: &[u8]) -> Option<Material> {
+    let (material, one_nan) = read(bytes, MATERIAL, |r| r.material())?;
+    one_nan.then_some(material)
 }
 
 impl Record {
@@ -175,7 +193,17 @@ impl Record {
         Some(record)
     }
 
+    /// As the engine writes it: every NaN is the one.
     pub fn write(&self) -> Vec<u8> {
+        self.bytes(double)
+    }
+
+    /// As a caller may hand it over: every NaN keeps its bits.
+    pub fn given(&self) -> Vec<u8> {
+        self.bytes(f64::to_le_bytes)
+    }
+
+    fn bytes(&self, double: fn(f64) -> [u8; 8]) -> Vec<u8> {
         let mut out = Vec::with_capacity(LENGTH);
         for n in self.sizes {
             out.extend((n as u16).to_le_bytes());
@@ -194,7 +222,7 @@ impl Record {
         }
         out.extend(self.steps.to_le_bytes());
         for material in &self.materials {
-            out.extend(material.write());
+            out.extend(material.bytes(double));
         }
         out.resize(LENGTH, 0);
         out
@@ -206,7 +234,17 @@ impl Record {
 }
 
 impl Material {
+    /// As the engine writes it: every NaN is the one.
     pub fn write(&self) -> Vec<u8> {
+        self.bytes(double)
+    }
+
+    /// As a caller may hand it over: every NaN keeps its bits.
+    pub fn given(&self) -> Vec<u8> {
+        self.bytes(f64::to_le_bytes)
+    }
+
+    fn bytes(&self, double: fn(f64) -> [u8; 8]) -> Vec<u8> {
         let mut out = Vec::with_capacity(MATERIAL);
         for x in [self.eps_inf, self.sigma, self.mu_r] {
             out.extend(double(x));

@@ -1,6 +1,6 @@
 //! A study as a caller holds it, and each call as a method that answers the refusal's number.
 
-use super::block::Record;
+use super::block::{Material, Record, Region};
 use super::*;
 use crate::agree;
 
@@ -94,6 +94,29 @@ impl Study {
     /// Names other axes as active in the block.
     pub fn put_active(&mut self, axes: [bool; 3]) {
         self.block[block::ACTIVE..block::ACTIVE + 3].copy_from_slice(&axes.map(u8::from));
+    }
+
+    pub fn put_time(&mut self, time: f64) {
+        self.put(|record| record.time = time);
+    }
+
+    pub fn put_built(&mut self, count: u8) {
+        self.put(|record| record.built_count = count);
+    }
+
+    pub fn put_region(&mut self, region: Region) {
+        self.put(|record| record.region = region);
+    }
+
+    pub fn put_material(&mut self, id: usize, material: Material) {
+        self.put(|record| record.materials[id] = material);
+    }
+
+    /// Changes the record in the block; what else stands there keeps its bits.
+    fn put(&mut self, change: impl FnOnce(&mut Record)) {
+        let mut record = self.record().unwrap();
+        change(&mut record);
+        self.block = record.given();
     }
 
     /// The stores of doubles with their names.

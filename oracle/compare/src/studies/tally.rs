@@ -3,8 +3,9 @@
 use std::collections::BTreeMap;
 
 use crate::call::Call;
-use crate::choose::{LONG_ROW, row_axis};
+use crate::choose::{LONG_ROW, LONG_SIDE, row_axis};
 use crate::engine::Study;
+use crate::engine::block::Record;
 use crate::report;
 
 #[derive(Default)]
@@ -13,9 +14,19 @@ pub struct Tally {
     calls: BTreeMap<String, u64>,
     refusals: BTreeMap<u32, u64>,
     steps: BTreeMap<&'static str, u64>,
+    /// Calls on a block that has another NaN than the one.
+    on_another_nan: BTreeMap<String, u64>,
 }
 
 impl Tally {
+    /// Counts a call of the engine that gets a block with another NaN than the one.
+    pub fn count_block(&mut self, call: &Call, study: &Study) {
+        let written = study.record().map(|record| record.write());
+        if !call.is_by_hand() && written.is_some_and(|block| block != study.block) {
+            *self.on_another_nan.entry(call.name()).or_default() += 1;
+        }
+    }
+
     /// Counts a call by its name and refusal, and an accepted step by what it ran through.
     pub fn count(&mut self, call: &Call, refusal: u32, study: &Study) {
         *self.calls.entry(call.name()).or_default() += 1;
@@ -24,7 +35,7 @@ impl Tally {
             return;
         }
         let record = study.record().unwrap();
-        let [_, _, _, _, k0, k1] = record.region.corners;
+        let [.., k0, k1] = record.region.corners;
         let (kind, top) = (record.region.kind, record.sizes[2] - 1);
         let finite = study.e.iter().chain(&study.h).all(|x| x.is_finite());
         let long = record.sizes[row_axis(&record.sizes)] >= LONG_ROW;
@@ -35,6 +46,10 @@ impl Tally {
             (
                 "in such rows with an active layer",
                 long && record.active.contains(&true),
+            ),
+            (
+                "with a side above 24",
+                record.sizes.iter().any(|n| *n > LONG_SIDE),
             ),
             ("periodic", record.periodic.contains(&true)),
             (
@@ -48,15 +63,33 @@ impl Tally {
                 one_cell(&record.sizes, &record.active),
             ),
             ("with polarizations", record.built_count != 0),
+            ("with materials built that have no pole", no_pole(&record)),
             ("with a slab", kind == 1),
             ("with an injector", kind == 2),
             ("with a box", kind == 3),
+            (
+                "with a slab of its own corners",
+                kind == 1 && own_corners(&record),
+            ),
+            (
+                "with an injector of its own corners",
+                kind == 2 && own_corners(&record),
+            ),
             ("with a region from k0 = 0", kind != 0 && k0 == 0),
             ("with a region up to k1 = nz - 1", kind != 0 && k1 == top),
         ];
         for (name, _) in kinds.into_iter().filter(|(_, holds)| *holds) {
             *self.steps.entry(name).or_default() += 1;
         }
+    }
+
+    /// Takes in what another one has counted.
+    pub fn join(&mut self, other: Self) {
+        self.studies += other.studies;
+        add(&mut self.calls, other.calls);
+        add(&mut self.refusals, other.refusals);
+        add(&mut self.steps, other.steps);
+        add(&mut self.on_another_nan, other.on_another_nan);
     }
 
     pub fn report(&self) {
@@ -68,12 +101,39 @@ impl Tally {
         report(&format!("  calls {:?}", self.calls));
         report(&format!("  answers {:?}", self.refusals));
         report(&format!("  accepted steps {:?}", self.steps));
+        report(&format!(
+            "  on a block with another NaN {:?}",
+            self.on_another_nan
+        ));
     }
 
-    /// Every kind of call, every refusal that a study can bring on and every kind of step was there.
+    /// Every kind of call, every refusal that a study can bring on and every kind of step was there, and every
+    /// call of the engine on a block with another NaN too.
     pub fn is_varied(&self) -> bool {
-        self.calls.len() == 24 && self.refusals.len() == 10 && self.steps.len() == 15
+        let of_the_engine = 21;
+        self.calls.len() == of_the_engine + 7
+            && self.refusals.len() == 10
+            && self.steps.len() == 19
+            && self.on_another_nan.len() == of_the_engine
     }
+}
+
+fn add<K: Ord>(counts: &mut BTreeMap<K, u64>, more: BTreeMap<K, u64>) {
+    for (key, n) in more {
+        *counts.entry(key).or_default() += n;
+    }
+}
+
+/// Whether materials are built of which none has a pole.
+fn no_pole(record: &Record) -> bool {
+    let built = &record.materials[..record.built_count.into()];
+    !built.is_empty() && built.iter().all(|m| m.pole_count == 0)
+}
+
+/// Whether the region does not reach over the whole plane, as the calls for slab and injector have it.
+fn own_corners(record: &Record) -> bool {
+    let ([nx, ny, _], [i0, i1, j0, j1, ..]) = (record.sizes, record.region.corners);
+    [i0, i1, j0, j1] != [0, nx - 1, 0, ny - 1]
 }
 
 fn one_cell(sizes: &[usize; 3], flags: &[bool; 3]) -> bool {

@@ -1,16 +1,29 @@
 //! The original's arrays beside the stores, and its settings as a record.
 
+use std::ops::Range;
+
 use phyz_em::cpml::{AxisCoeffs, Cpml, CpmlConfig};
 use phyz_em::grid::Array3D;
 
 use super::materials::engine_material;
 use super::{THICK, Theirs};
-use crate::engine::block::{Record, Region};
+use crate::engine::block::{HEAD, Record, Region, TIME};
 
 impl Theirs {
-    /// Takes from the original every array that it has.
+    /// What `run` has left: every array, and the clock.
     pub fn read(&mut self) {
-        self.expected.block = self.record().write();
+        self.read_arrays();
+        self.write_block(TIME..HEAD);
+    }
+
+    /// These bytes of the block that is expected, as the original now stands.
+    pub(super) fn write_block(&mut self, bytes: Range<usize>) {
+        let block = self.record().write();
+        self.expected.block[bytes.clone()].copy_from_slice(&block[bytes]);
+    }
+
+    /// Takes from the original every array that it has.
+    pub(super) fn read_arrays(&mut self) {
         self.expected.ids.clone_from(&self.grid.mat_id);
         self.each_array(|mine, theirs| mine.copy_from_slice(theirs));
     }

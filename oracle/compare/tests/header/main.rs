@@ -1,15 +1,19 @@
-//! The header, the engine's source and the declarations here say the same, and a caller in C that
-//! includes the header is understood.
+//! The header, the engine's source and the declarations here say the same; callers in C and C++ that
+//! include the header are understood; and what it says is what the engine does, as C sees it
+//! (oracle/header has a file for each theme).
 
+mod changes;
+mod program;
 mod signatures;
 
-use compare::engine::{block, cichowiej_eps0, cichowiej_mu0};
-use compare::{judge, report, top};
+use compare::engine::{cichowiej_eps0, cichowiej_mu0};
+use compare::{report, top};
+use program::{program, source};
 use signatures::{Signatures, of_header, of_source};
-use std::collections::BTreeMap;
 use std::fs;
-use std::path::Path;
+use std::path::{Path, PathBuf};
 use std::process::Command;
+use std::sync::OnceLock;
 
 fn header() -> Signatures {
     of_header(&fs::read_to_string(top().join("include/cichowiej.h")).unwrap())
@@ -25,7 +29,7 @@ fn engine_source() -> String {
         .collect()
 }
 
-/// Names, types of parameters and of the answer, both ways.
+/// Names, types and names of parameters, and the answer's type, both ways.
 fn same(header: &Signatures, other: &Signatures, which: &str) {
     for (name, signature) in header {
         assert_eq!(Some(signature), other.get(name), "{name} in {which}");
@@ -50,70 +54,9 @@ fn the_declarations_here_are_the_headers() {
     same(&header(), &of_source(text, "fn "), "compare/src/engine.rs");
 }
 
-/// The header's numbers are the ones that the judge goes by.
-#[test]
-fn the_numbers_are_the_judges() {
-    let text = fs::read_to_string(top().join("include/cichowiej.h")).unwrap();
-    let defined = text.lines().filter_map(|line| {
-        let mut words = line.strip_prefix("#define CICHOWIEJ_")?.split_whitespace();
-        Some((words.next()?, words.next()?.parse::<usize>().ok()?))
-    });
-    let refusals = [
-        ("ACCEPTED", 0),
-        ("BAD_SIZE", judge::BAD_SIZE),
-        ("BAD_SPACING", judge::BAD_SPACING),
-        ("BAD_STUDY", judge::BAD_STUDY),
-        ("BAD_STORE", judge::BAD_STORE),
-        ("FULL", judge::FULL),
-        ("TOO_MANY_POLES", judge::TOO_MANY_POLES),
-        ("NO_SUCH_MATERIAL", judge::NO_SUCH_MATERIAL),
-        ("STALE_MATERIAL", judge::STALE_MATERIAL),
-        ("BAD_REGION", judge::BAD_REGION),
-        ("BAD_ORDER", judge::BAD_ORDER),
-        ("SPENT_CLOCK", judge::SPENT_CLOCK),
-        ("NO_ROOM", judge::NO_ROOM),
-        ("SHORT", judge::SHORT),
-        ("BAD_MARK", judge::BAD_MARK),
-        ("BAD_RECORD", judge::BAD_RECORD),
-        ("TRAILING", judge::TRAILING),
-        ("NO_SUCH_PLANE", judge::NO_SUCH_PLANE),
-    ];
-    let lengths = [
-        ("BLOCK_LENGTH", block::LENGTH),
-        ("MATERIAL_LENGTH", block::MATERIAL),
-    ];
-    let refusals = refusals.map(|(name, number)| (name, number as usize));
-    let expected: BTreeMap<&str, usize> = refusals.into_iter().chain(lengths).collect();
-    assert_eq!(defined.collect::<BTreeMap<_, _>>(), expected);
-}
-
-/// Compiles the caller with every warning an error, and answers what it prints.
-fn caller() -> String {
-    let program = Path::new(env!("CARGO_TARGET_TMPDIR")).join("caller");
-    let compiled = Command::new("gcc")
-        .args(["-Wall", "-Wextra", "-Werror", "-std=c11", "-I"])
-        .arg(top().join("include"))
-        .arg("-o")
-        .arg(&program)
-        .arg(top().join("oracle/header/caller.c"))
-        .arg(top().join("target/staticlib/libapi.a"))
-        .arg("-lm")
-        .output()
-        .expect("gcc compiles the caller");
-    assert!(
-        compiled.status.success(),
-        "{}",
-        String::from_utf8_lossy(&compiled.stderr)
-    );
-    let ran = Command::new(&program).output().unwrap();
-    assert!(ran.status.success());
-    String::from_utf8(ran.stdout).unwrap()
-}
-
 /// Document 01's sample study: the source alone has moved, and its place holds the sample. Then
 /// readings, and a number that a rewind brings back.
-#[test]
-fn a_caller_in_c() {
+fn understood(program: &Path) {
     let energy = 0.5 * cichowiej_eps0() * 4.0 + 0.5 * cichowiej_mu0() * 9.0;
     let lines = [
         "open: refusal 0".to_string(),
@@ -121,6 +64,7 @@ fn a_caller_in_c() {
         "step: refusal 0".to_string(),
         format!("line at 6: refusal 0, {:016X}", 3f64.to_bits()),
         "others that are not +0.0: 0".to_string(),
+        format!("time: refusal 1, {:016X}", 1f64.to_bits()),
         format!("plane 5: refusal 0, {:016X}", 6f64.to_bits()),
         format!("plane 40: refusal 17, {:016X}", 0f64.to_bits()),
         format!("energy: refusal 0, {:016X}", energy.to_bits()),
@@ -130,5 +74,57 @@ fn a_caller_in_c() {
         format!("rewind, short: refusal 13, {:016X}", 0f64.to_bits()),
         format!("rewind: refusal 0, {:016X}", 2f64.to_bits()),
     ];
-    assert_eq!(caller().lines().collect::<Vec<_>>(), lines);
+    let ran = Command::new(program).output().unwrap();
+    assert!(ran.status.success());
+    let said = String::from_utf8(ran.stdout).unwrap();
+    assert_eq!(said.lines().collect::<Vec<_>>(), lines);
+}
+
+#[test]
+fn a_caller_in_c() {
+    understood(&program(
+        "gcc",
+        &["-std=c99"],
+        &[source("caller.c")],
+        "caller",
+    ));
+}
+
+#[test]
+fn a_caller_in_cpp() {
+    let options = ["-std=c++11", "-x", "c++"];
+    understood(&program("g++", &options, &[source("caller.c")], "caller++"));
+}
+
+/// The program of the checks, compiled once, each file by itself.
+fn checks() -> &'static Path {
+    static PROGRAM: OnceLock<PathBuf> = OnceLock::new();
+    PROGRAM.get_or_init(|| {
+        let entries = fs::read_dir(source("")).unwrap();
+        let files = entries.map(|entry| entry.unwrap().path());
+        let whole = ["caller.c", "all.c"].map(source);
+        let files = files.filter(|path| path.extension().is_some_and(|e| e == "c"));
+        let files: Vec<_> = files.filter(|path| !whole.contains(path)).collect();
+        program("gcc", &["-std=c99"], &files, "checks")
+    })
+}
+
+/// Each theme is a test: what the program says is where it fails.
+macro_rules! themes {
+    ($($theme:ident)*) => {
+        mod theme {
+            $(
+                #[test]
+                fn $theme() {
+                    let ran = super::Command::new(super::checks()).arg(stringify!($theme)).output().unwrap();
+                    assert!(ran.status.success(), "{}", String::from_utf8_lossy(&ran.stdout));
+                }
+            )*
+        }
+    };
+}
+
+themes! {
+    limits refusals precedence record materials poles lengths parts tables walls regions effects steps saves pointers
+    wrappers bytes nans overlap
 }

@@ -26,6 +26,10 @@ fn due(study: &Study, call: &Call, refusal: u32) {
         assert!(room, "{call:?} refused, and its room written");
     } else {
         assert!(after.record().is_some(), "{call:?} left no record");
+        let written = call.written();
+        let kept = |b: &[u8]| [&b[..written.start], &b[written.end..]].concat();
+        let same = kept(&study.block) == kept(&after.block);
+        assert!(same, "{call:?} wrote to the block beyond {written:?}");
     }
 }
 
@@ -120,20 +124,41 @@ fn doubles() -> Vec<usize> {
     places
 }
 
-/// Every double of the block in turn, at the edges of the format: of the NaNs one may stand there.
+/// Every double of the block in turn, at the edges of the format.
 #[test]
 fn blocks_with_an_odd_double() {
     let (standing, calls) = (study(), calls());
     let mut random = Random::new(1981);
+    let mut accepted = 0;
     for at in doubles() {
         for bits in EDGES.into_iter().flat_map(|b| [b, b | SIGN]) {
-            let mut study = standing.clone();
-            study.block[at..at + 8].copy_from_slice(&bits.to_le_bytes());
-            let nan = f64::from_bits(bits).is_nan() && bits != 0x7FF8_0000_0000_0000;
             let call = &calls[NOT_JUDGED + random.index(calls.len() - NOT_JUDGED)];
+            let study = with_double(&standing, at, bits);
             let number = judged(&study, call);
-            assert!(!nan || number == BAD_STUDY, "{bits:016X} at {at}");
+            if f64::from_bits(bits).is_nan() && bits != block::NAN {
+                as_the_nan(&study, &with_double(&standing, at, block::NAN), call);
+                accepted += u32::from(number == 0);
+            }
         }
+    }
+    report(&format!(
+        "blocks with another NaN: {accepted} calls accepted"
+    ));
+    assert!(accepted > 0);
+}
+
+fn with_double(standing: &Study, at: usize, bits: u64) -> Study {
+    let mut study = standing.clone();
+    study.block[at..at + 8].copy_from_slice(&bits.to_le_bytes());
+    study
+}
+
+/// A call on a block with another NaN comes to what it comes to with the one.
+fn as_the_nan(odd: &Study, one: &Study, call: &Call) {
+    let (mut odd, mut one) = (odd.clone(), one.clone());
+    assert!(odd.apply(call).agrees(&one.apply(call)), "{call:?}");
+    if one.record().is_some() {
+        assert_eq!(first_difference(&one, &odd), None, "{call:?}");
     }
 }
 
@@ -385,20 +410,9 @@ fn room_for_a_further_answer() {
 fn no_materials() -> Vec<Vec<u8>> {
     let good = material(&[3]).write();
     let mut all = vec![Vec::new(), good[1..].to_vec(), [&good[..], &[0]].concat()];
-    for (at, value) in [
-        (25, 0),
-        (25, 4),
-        (50, 1),
-        (51, 1),
-        (42, 1),
-        (124, 9),
-        (6, 0xF9),
-    ] {
+    for (at, value) in [(25, 0), (25, 4), (50, 1), (51, 1), (42, 1), (124, 9)] {
         let mut bytes = good.clone();
         bytes[at] = value;
-        if at == 6 {
-            bytes[7] = 0x7F;
-        }
         all.push(bytes);
     }
     all
@@ -427,6 +441,30 @@ fn bytes_that_are_no_material() {
         };
         added(&study(), &bytes, number);
         added(&full, &bytes, number);
+    }
+}
+
+/// Any NaN in a material's bytes is taken, and the one is written.
+#[test]
+fn a_material_with_another_nan() {
+    let standing = study();
+    let good = material(&[3]).write();
+    for at in [0, 8, 16, 26, 34] {
+        for bits in [0x7FF0_0000_0000_0001_u64, 0x7FF9_0000_0000_0000, u64::MAX] {
+            let [odd, one] = [bits, block::NAN].map(|bits| {
+                let mut bytes = good.clone();
+                bytes[at..at + 8].copy_from_slice(&bits.to_le_bytes());
+                let mut study = standing.clone();
+                assert_eq!(adding(&study, &bytes), 0);
+                assert_eq!(
+                    study.add_material(&bytes, &mut []),
+                    0,
+                    "{bits:016X} at {at}"
+                );
+                study
+            });
+            assert!(untouched(&one, &odd));
+        }
     }
 }
 

@@ -1,3 +1,5 @@
+use mathlib.Core.Path.{_∙_}
+use borrow.Author.Needs.{needs}
 use Prim.Native.Nat.{_+_, _-_, _≤_}
 use native.Mathlib.Omega.{arith}
 use lib.ListN.{length-set, getD}
@@ -16,7 +18,11 @@ abbrev μ-loop : tie.MeasureT-loop
 
 loop-again : tie.Need-loop-again Inv-loop μ-loop
 loop-again c =
-    let l = c .before .before .before .loop in (omega arith, two-step _ _ _ _ _ _ _ _ _ _ (l .inv .1) (omega arith) (omega arith) (omega arith) (rw (c .before .at .ensures, c .at2 .ensures)) (rw (c .before .at .ensures, c .at2 .ensures)))
+    let l = c .before .before .before .before .loop in
+    let f = c .weights-of .ensures in (
+      omega arith,
+      two-step _ _ _ _ _ _ _ _ _ _ (l .inv .1) (omega arith) (omega arith) (omega arith) (f .0 ∙ rw (c .before .before .at .ensures, c .before .at2 .ensures)) (f .1 ∙ rw (c .before .before .at .ensures, c .before .at2 .ensures)),
+    )
 
 pub factors-spec : {M : Type 1} → statement M
 factors-spec =
@@ -27,6 +33,7 @@ factors-spec =
     (λ c. (omega arith, two-start _ _ _ _ _ _))
     (λ c κs. omega arith)
     (λ c κs. omega arith)
+    (λ c κs. search needs)
     (λ c. omega arith)
     (λ c. omega arith)
     (λ c. omega arith)

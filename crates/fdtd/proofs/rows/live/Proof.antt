@@ -1,10 +1,11 @@
-use mathlib.Core.Path.{_∙_}
+use mathlib.Core.Path.{_∙_, ap}
 use Prim.Native.Nat.{_+_, _-_, _≤_}
 use native.Mathlib.Nat.{le-refl}
 use native.Mathlib.Omega.{arith}
 use lib.ListN.{getD}
 use lib.Ieee.{nan}
 use borrow.Author.Needs.{needs}
+use Rattle.cpml.specs.declared.Advanced.{Advanced}
 use Rattle.fdtd.specs.Yee.{memNext, layered}
 use Rattle.fdtd.specs.Rows.{kOf}
 use Rattle.fdtd.specs.Span.{Span}
@@ -24,18 +25,17 @@ loop-holds c = (omega arith, omega arith, span-start _ _ _ _, span-start _ _ _ _
 
 loop-again : tie.Need-loop-again Inv-loop μ-loop
 loop-again c =
-    let loop = c .before .before .before .before .before .before .before .before .before .before .before .before .loop in
-    let coef-at = c .before .before .before .before .before .before .before .before .before .before .coef-at in
-    let at = c .before .before .before .before .before .before .before .before .at in
-    let l = loop in let a = c .before .before .before .before .before .before .before .before .before .before .before .before .before .before .before .before .args in
-    let d = at .ensures ∙ l .inv .2 .under (a .o + l .i) (omega (arith, c .before .before .before .before .before .before .before .before .before .before .before)) in
-    let m = c .before .before .before .before .before .before .at2 .ensures ∙ l .inv .3 .over (a .s .mem + l .i) (le-refl (a .s .mem + l .i)) in
-    let u = c .before .before .before .before .at3 .ensures ∙ l .inv .2 .over (1024 + l .i) (le-refl (1024 + l .i)) in
-    let k = coef-at .ensures in (
+    let l = c .before .before .before .before .before .before .before .before .before .before .before .loop in
+    let a = c .before .before .before .before .before .before .before .before .before .before .before .before .before .before .before .args in
+    let k = c .before .before .before .before .before .before .before .before .before .coef-at .ensures in
+    let moved = c .before .before .before .before .advance .ensures in
+    let d = c .before .before .before .before .before .before .before .at .ensures ∙ l .inv .2 .under (a .o + l .i) (omega (arith, c .before .before .before .before .before .before .before .before .before .before)) in
+    let m = c .before .before .before .before .before .at2 .ensures ∙ l .inv .3 .over (a .s .mem + l .i) (le-refl (a .s .mem + l .i)) in
+    let u = c .before .before .at3 .ensures ∙ l .inv .2 .over (1024 + l .i) (le-refl (1024 + l .i)) in (
       omega arith,
-      omega (arith, c .before .before .before .before .before .before .before .before .before .before .before),
-      span-step _ _ _ _ _ _ _ (l .inv .2) (omega (arith, c .before .before .before .before .before .before .before .before .before .before .before)) (omega (arith, c .before .before .before .before .before .before .before .before .before .before .before)) (live-law (a .second) (c .before .join .ensures) u (c .before .before .before .told-of .ensures) (c .before .before .stretch .ensures) k m d),
-      span-step _ _ _ _ _ _ _ (l .inv .3) (omega (arith, c .before .before .before .before .before .before .before .before .before .before .before)) (omega (arith, c .before .before .before .before .before .before .before .before .before .before .before)) (mem-law (c .mem-next .ensures) k m d),
+      omega (arith, c .before .before .before .before .before .before .before .before .before .before),
+      span-step _ _ _ _ _ _ _ (l .inv .2) (omega (arith, c .before .before .before .before .before .before .before .before .before .before)) (omega (arith, c .before .before .before .before .before .before .before .before .before .before)) (live-law (a .second) (c .join .ensures) u (ap (λ (x : Advanced). x .answer) moved) (c .before .stretch .ensures) k m d),
+      span-step _ _ _ _ _ _ _ (l .inv .3) (omega (arith, c .before .before .before .before .before .before .before .before .before .before)) (omega (arith, c .before .before .before .before .before .before .before .before .before .before)) (mem-law (ap (λ (x : Advanced). x .memory) moved) k m d),
     )
 
 returns : tie.Need-returns Inv-loop μ-loop
@@ -51,13 +51,12 @@ live-spec =
     (λ c κs. omega arith)
     (λ c κs. omega arith)
     (λ c κs. omega arith)
+    (λ c κs. search needs)
+    (λ c. omega arith)
+    (λ c. omega arith)
+    (λ c. omega arith)
     (λ c κs. omega arith)
     (λ c κs. search needs)
-    (λ c κs. search needs)
-    (λ c κs. search needs)
-    (λ c. omega arith)
-    (λ c. omega arith)
-    (λ c. omega arith)
     (λ c κs. search needs)
     (λ c. omega arith)
     (λ c. omega arith)

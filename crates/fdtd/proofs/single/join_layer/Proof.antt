@@ -1,13 +1,16 @@
+use mathlib.Core.Path.{ap}
 use borrow.Author.Needs.{needs}
+use Rattle.cpml.specs.declared.Advanced.{Advanced}
 use Rattle.fdtd.proofs.Singles.{lone-set, lone-kept, layer-on, layer-off, memory-on, memory-off}
 use Rattle.fdtd.proofs.single.join_layer.Statement.{statement}
 use Rattle.fdtd.proofs.single.join_layer.Tie as tie
 
 returns : tie.Need-returns
 returns c =
-    let a = c .before .before .before .before .before .before .before .args in
-    let on = c .before .before .before .before .before .if1 .taken in
-    (layer-on (a .on) (a .k) _ _ (a .second) _ on (c .join .ensures) (c .before .before .told-of .ensures) (c .before .stretch .ensures), lone-set _ _ (c .before .before .before .before .before .before .before .pre) (memory-on (a .on) (a .k) _ _ on (c .before .before .before .mem-next .ensures)))
+    let a = c .before .before .before .before .before .before .args in
+    let on = c .before .before .before .before .if1 .taken in
+    let moved = c .before .before .advance .ensures in
+    (layer-on (a .on) (a .k) _ _ (a .second) _ on (c .join .ensures) (ap (λ (x : Advanced). x .answer) moved) (c .before .stretch .ensures), lone-set _ _ (c .before .before .before .before .before .before .pre) (memory-on (a .on) (a .k) _ _ on (ap (λ (x : Advanced). x .memory) moved)))
 
 returns-2 : tie.Need-returns-2
 returns-2 c =
@@ -23,7 +26,6 @@ join-layer-spec =
     (λ c κs. search needs)
     (λ c. search needs)
     (λ c. search needs)
-    (λ c κs. search needs)
     (λ c κs. search needs)
     (λ c κs. search needs)
     (λ c. search needs)

@@ -5,8 +5,8 @@ use lib.ListN.{length, drop}
 use Rattle.codec.specs.Lists.{put}
 use Rattle.cells.specs.Cells.{row}
 use Rattle.cells.proofs.Written.{joined-none}
-use Rattle.block.proofs.Turns.{materials-more, materials-all}
 use Rattle.format.specs.Rewind.{materialOf, materialsOf}
+use Rattle.saves.proofs.Judged.{materials-more, materials-all}
 use borrow.Author.Needs.{needs}
 use Rattle.saves.proofs.judge.get_materials.Statement.{statement}
 use Rattle.saves.proofs.judge.get_materials.Tie as tie

@@ -1,6 +1,7 @@
 use mathlib.Core.Path.{refl}
 use Rattle.grid.proofs.Tests.{unless, met}
-use Rattle.api.proofs.Passing.{block-long, ill-kept, well, answering-of}
+use Rattle.block.proofs.Turns.{block-long}
+use Rattle.api.proofs.Passing.{ill-kept, well, answering-of}
 use Rattle.api.proofs.on_block.library.add_material.Statement.{statement}
 use Rattle.api.proofs.on_block.library.add_material.Tie as tie
 

@@ -1,21 +1,22 @@
 use mathlib.Core.Path.{refl}
 use Rattle.grid.proofs.Tests.{unless, met}
-use Rattle.api.proofs.Passing.{block-long, ill, well}
+use Rattle.block.proofs.Turns.{block-long}
+use Rattle.api.proofs.Passing.{clock-ill, clock-well}
 use Rattle.api.proofs.Vacuum.{step-vacuum}
 use Rattle.api.proofs.on_block.steps.step.Statement.{statement}
 use Rattle.api.proofs.on_block.steps.step.Tie as tie
 
 returns : tie.Need-returns
-returns c = ill _ _ _ (unless (c .before .is-record .ensures) (c .if1 .taken))
+returns c = clock-ill _ _ _ (unless (c .before .is-record .ensures) (c .if1 .taken))
 
 get-record-requires : tie.Need-get-record-requires
 get-record-requires c κs = met (c .before .before .is-record .ensures) (c .before .if1 .left)
 
-keep-requires : tie.Need-keep-requires
-keep-requires c κs = block-long _ (met (c .before .before .before .before .before .before .before .before .before .before .before .before .before .before .before .before .before .before .before .before .before .before .before .is-record .ensures) (c .before .before .before .before .before .before .before .before .before .before .before .before .before .before .before .before .before .before .before .before .before .before .if1 .left))
+keep-clock-requires : tie.Need-keep-clock-requires
+keep-clock-requires c κs = block-long _ (met (c .before .before .before .before .before .before .before .before .before .before .before .before .before .before .before .before .before .before .before .before .before .before .before .is-record .ensures) (c .before .before .before .before .before .before .before .before .before .before .before .before .before .before .before .before .before .before .before .before .before .before .if1 .left))
 
 returns-2 : tie.Need-returns-2
-returns-2 c = well _ _ _ (met (c .before .before .before .before .before .before .before .before .before .before .before .before .before .before .before .before .before .before .before .before .before .before .before .before .before .before .is-record .ensures) (c .before .before .before .before .before .before .before .before .before .before .before .before .before .before .before .before .before .before .before .before .before .before .before .before .before .if1 .left)) (c .before .before .before .before .before .before .before .before .before .before .before .before .before .before .before .before .before .before .before .before .before .before .before .get-record .ensures) (step-vacuum _ _ _ (c .before .before .before .before .before .before .before .before .before .before .before .before .before .before .before .before .step .ensures)) (c .before .before .keep .ensures)
+returns-2 c = clock-well _ _ _ (met (c .before .before .before .before .before .before .before .before .before .before .before .before .before .before .before .before .before .before .before .before .before .before .before .before .before .before .is-record .ensures) (c .before .before .before .before .before .before .before .before .before .before .before .before .before .before .before .before .before .before .before .before .before .before .before .before .before .if1 .left)) (c .before .before .before .before .before .before .before .before .before .before .before .before .before .before .before .before .before .before .before .before .before .before .before .get-record .ensures) (step-vacuum _ _ _ (c .before .before .before .before .before .before .before .before .before .before .before .before .before .before .before .before .step-record .ensures)) (c .before .before .keep-clock .ensures)
 
 pub step-spec : {M : Type 1} → statement M
 step-spec =
@@ -26,12 +27,12 @@ step-spec =
     returns
     get-record-requires
     (λ c κs. tt)
-    keep-requires
-    (λ c. c .before .before .keep .kept .0)
-    (λ c. c .before .before .before .before .before .before .before .before .before .before .before .before .before .before .before .before .step .kept .1 .1 .1 .1 .1 .0)
-    (λ c. c .before .before .before .before .before .before .before .before .before .before .before .before .before .before .before .before .step .kept .1 .1 .1 .1 .1 .1 .0)
-    (λ c. c .before .before .before .before .before .before .before .before .before .before .before .before .before .before .before .before .step .kept .1 .1 .1 .1 .1 .1 .1 .1 .0)
-    (λ c. c .before .before .before .before .before .before .before .before .before .before .before .before .before .before .before .before .step .kept .1 .1 .1 .1 .1 .1 .1 .1 .1 .0)
-    (λ c. c .before .before .before .before .before .before .before .before .before .before .before .before .before .before .before .before .step .kept .1 .1 .1 .1 .1 .1 .1 .1 .1 .1 .1 .0)
-    (λ c. c .before .before .before .before .before .before .before .before .before .before .before .before .before .before .before .before .step .kept .1 .1 .1 .1 .1 .1 .1 .1 .1 .1 .1 .1 .0)
+    keep-clock-requires
+    (λ c. c .before .before .keep-clock .kept .0)
+    (λ c. c .before .before .before .before .before .before .before .before .before .before .before .before .before .before .before .before .step-record .kept .1 .1 .1 .1 .1 .0)
+    (λ c. c .before .before .before .before .before .before .before .before .before .before .before .before .before .before .before .before .step-record .kept .1 .1 .1 .1 .1 .1 .0)
+    (λ c. c .before .before .before .before .before .before .before .before .before .before .before .before .before .before .before .before .step-record .kept .1 .1 .1 .1 .1 .1 .1 .1 .0)
+    (λ c. c .before .before .before .before .before .before .before .before .before .before .before .before .before .before .before .before .step-record .kept .1 .1 .1 .1 .1 .1 .1 .1 .1 .0)
+    (λ c. c .before .before .before .before .before .before .before .before .before .before .before .before .before .before .before .before .step-record .kept .1 .1 .1 .1 .1 .1 .1 .1 .1 .1 .1 .0)
+    (λ c. c .before .before .before .before .before .before .before .before .before .before .before .before .before .before .before .before .step-record .kept .1 .1 .1 .1 .1 .1 .1 .1 .1 .1 .1 .1 .0)
     returns-2)

@@ -1,6 +1,7 @@
 use mathlib.Core.Path.{refl}
 use Rattle.grid.proofs.Tests.{unless, met}
-use Rattle.api.proofs.Passing.{block-long, well, naming-of, unnamed}
+use Rattle.block.proofs.Turns.{block-long}
+use Rattle.api.proofs.Passing.{well, naming-of, unnamed}
 use Rattle.api.proofs.on_block.walls.set_boundary_cpml.Statement.{statement}
 use Rattle.api.proofs.on_block.walls.set_boundary_cpml.Tie as tie
 

@@ -1,6 +1,7 @@
 use mathlib.Core.Path.{refl}
 use Rattle.grid.proofs.Tests.{unless, met}
-use Rattle.api.proofs.Passing.{block-long, ill, well}
+use Rattle.block.proofs.Turns.{block-long}
+use Rattle.api.proofs.Passing.{ill, well}
 use Rattle.api.proofs.on_block.waves.injector_z.Statement.{statement}
 use Rattle.api.proofs.on_block.waves.injector_z.Tie as tie
 

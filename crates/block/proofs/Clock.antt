@@ -1,0 +1,133 @@
+-- A block with another clock put into it: a record's block still, and the record is the same but for the clock. Assumes nothing.
+use Prim.Native.Nat.{ℕ, zero, suc, _+_, _*_, _≤_, _<_}
+use native.Mathlib.Omega.{arith}
+use mathlib.Core.Path.{_≡_, refl, sym, ap, _∙_}
+use mathlib.Core.Bool.{Bool, true, cond, _&&_}
+use mathlib.Core.List.{List, [], _∷_, _++_, append-assoc}
+use lib.Dec.{T, ltb, eqb}
+use lib.ListN.{length, getD, take, drop, take-append-drop, length-drop}
+use lib.Seq.{length-take-le, take-append-le, drop-append-le, drop-drop}
+use lib.Ieee.{binary64, ofBits}
+use lib.Ieee.Bits.{ofBits-toBits}
+use Rattle.codec.specs.Lists.{put, part}
+use Rattle.codec.specs.Bytes.{unle, enc, nums, total}
+use Rattle.codec.proofs.Lists.{put-length, take-put, drop-put, drop-past}
+use Rattle.codec.proofs.Row.{length-enc, fit-nil, fit-cons, nums-enc}
+use Rattle.dispersion.specs.declared.DispersiveMaterial.{DispersiveMaterial}
+use Rattle.dispersion.specs.Material.{vacuumMaterial}
+use Rattle.cells.specs.Cells.{row}
+use Rattle.cells.proofs.Blocks.{joined-same}
+use Rattle.grid.specs.declared.Clock.{Clock}
+use Rattle.grid.specs.declared.Record.{Record}
+use Rattle.grid.specs.Edited.{withClock}
+use Rattle.grid.specs.Fault.{allBelow}
+use Rattle.heads.specs.Numbers.{bits, planWidths, cornerWidths, ghWidths, flagsFine, cornersFine, ghShaped, ghOf, mlWidths, mlShaped, mlOf}
+use Rattle.block.specs.Block.{blockLength, clockWidths, clockBytes, clockPut, headOf, entryAt, counted, allZero, entryFine, blockFine, entryOf, blockRecord}
+use Rattle.block.specs.Held.{held}
+use Rattle.block.proofs.Turns.{block-long}
+use Rattle.block.proofs.Entry.{bits-small}
+
+-- ---- numbers of a row in two parts, and of bytes that begin alike
+nums-append : (ws vs l : List ℕ) → nums (ws ++ vs) l ≡ nums ws l ++ nums vs (drop (total ws) l)
+unfolding nums total
+nums-append [] vs l = refl
+nums-append (w ∷ ws) vs l =
+    ap (λ (x : List ℕ). unle (take w l) ∷ x) (nums-append ws vs (drop w l) ∙ ap (λ (x : List ℕ). nums ws (drop w l) ++ nums vs x) (drop-drop (total ws) w l))
+
+nums-front : (ws p q r : List ℕ) → total ws ≤ length p → nums ws (p ++ q) ≡ nums ws (p ++ r)
+unfolding nums total
+nums-front [] p q r h = refl
+nums-front (w ∷ ws) p q r h =
+    let a : w ≤ length p = omega arith in
+    let k : total ws ≤ length (drop w p) = omega (arith, length-drop w p) in
+    rw (take-append-le w p q a, take-append-le w p r a, drop-append-le w p q a, drop-append-le w p r a, nums-front ws (drop w p) q r k)
+
+-- GH but for its clock
+abbrev firstWidths : List ℕ
+firstWidths = planWidths ++ cornerWidths ++ (8 ∷ 8 ∷ 8 ∷ 8 ∷ [])
+
+all-same : (f g : ℕ → Bool) (n : ℕ) → ((i : ℕ) → f i ≡ g i) → allBelow f n ≡ allBelow g n
+unfolding allBelow
+all-same f g zero h = refl
+all-same f g (suc n) h = rw (all-same f g n h, h n)
+
+module _ (b : List ℕ) (c : Clock) (long : length b ≡ blockLength) where
+  abbrev after : List ℕ
+  after = clockPut c b
+
+  bytes-long : length (clockBytes c) ≡ 12
+  unfolding clockBytes total
+  bytes-long = length-enc clockWidths (bits (c .time) ∷ c .steps ∷ []) refl
+
+  after-long : length after ≡ blockLength
+  unfolding clockPut
+  after-long = put-length b 61 (clockBytes c) (omega (arith, bytes-long, long)) ∙ long
+
+  -- past the head nothing changes
+  rest-same : (k : ℕ) → drop (73 + k) after ≡ drop (73 + k) b
+  unfolding clockPut
+  rest-same k =
+      let e : 61 + length (clockBytes c) ≡ 73 = omega (arith, bytes-long) in
+      let past : drop 73 after ≡ drop 73 b = ap (λ (n : ℕ). drop n after) (sym e) ∙ drop-past b 61 (clockBytes c) (omega (arith, long)) ∙ ap (λ (n : ℕ). drop n b) e in
+      sym (drop-drop k 73 after) ∙ ap (drop k) past ∙ drop-drop k 73 b
+
+  -- up to the clock neither
+  first-same : nums firstWidths after ≡ nums firstWidths b
+  unfolding clockPut put total
+  first-same =
+      let room : 61 ≤ length (take 61 b) = omega (arith, length-take-le 61 b (omega (arith, long))) in
+      ap (nums firstWidths) (append-assoc (take 61 b) (clockBytes c) (drop (61 + length (clockBytes c)) b))
+      ∙ nums-front firstWidths (take 61 b) (clockBytes c ++ drop (61 + length (clockBytes c)) b) (drop 61 b) room
+      ∙ ap (nums firstWidths) (take-append-drop 61 b)
+
+  module _ (t : T (held (c .time))) (s : c .steps < 4294967296) where
+    abbrev two : List ℕ
+    two = bits (c .time) ∷ c .steps ∷ []
+
+    last-is : nums clockWidths (drop 61 after) ≡ two
+    unfolding clockPut clockBytes
+    last-is =
+        ap (nums clockWidths) (drop-put b 61 (clockBytes c) (omega (arith, long)))
+        ∙ nums-enc clockWidths two (drop (61 + length (clockBytes c)) b) (fit-cons 8 _ _ _ (bits-small (c .time) t) (fit-cons 4 _ _ _ s fit-nil))
+
+    head-after : headOf after ≡ nums firstWidths b ++ two
+    unfolding total
+    head-after = nums-append firstWidths clockWidths after ∙ ap (λ (x : List ℕ). nums firstWidths after ++ x) last-is ∙ ap (λ (x : List ℕ). x ++ two) first-same
+
+    head-before : headOf b ≡ nums firstWidths b ++ nums clockWidths (drop 61 b)
+    unfolding total
+    head-before = nums-append firstWidths clockWidths b
+
+    shaped-same : ghShaped (headOf after) ≡ ghShaped (headOf b)
+    unfolding ghShaped flagsFine cornersFine nums
+    shaped-same = ap ghShaped head-after ∙ sym (ap ghShaped head-before)
+
+    count-same : getD (headOf after) 12 0 ≡ getD (headOf b) 12 0
+    unfolding nums
+    count-same = ap (λ (l : List ℕ). getD l 12 0) head-after ∙ sym (ap (λ (l : List ℕ). getD l 12 0) head-before)
+
+    entry-same : (i : ℕ) → entryFine after i ≡ entryFine b i
+    unfolding entryFine part
+    entry-same i =
+        ap (λ (n : ℕ). cond (ltb i n) (mlShaped (entryAt after i)) (allZero (part after (73 + 125 * i) 125))) count-same
+        ∙ ap (λ (l : List ℕ). cond (counted b i) (mlShaped (nums mlWidths l)) (allZero (take 125 l))) (rest-same (125 * i))
+
+    of-same : (i : ℕ) → entryOf after i ≡ entryOf b i
+    unfolding entryOf
+    of-same i =
+        ap (λ (n : ℕ). cond (ltb i n) (mlOf (entryAt after i)) vacuumMaterial) count-same
+        ∙ ap (λ (l : List ℕ). cond (counted b i) (mlOf (nums mlWidths l)) vacuumMaterial) (rest-same (125 * i))
+
+    pub clock-fine : blockFine (clockPut c b) ≡ blockFine b
+    unfolding blockFine
+    clock-fine = rw (after-long, shaped-same, all-same (entryFine after) (entryFine b) 16 entry-same, long) refl
+
+    pub clock-record : blockRecord (clockPut c b) ≡ withClock (blockRecord b) c
+    unfolding blockRecord ghOf nums
+    clock-record =
+        let ms : List DispersiveMaterial = row 16 (entryOf b) in
+        let moved : ghOf (nums firstWidths b ++ two) ms ≡ withClock (ghOf (nums firstWidths b ++ nums clockWidths (drop 61 b)) ms) c = rw (ofBits-toBits binary64 (c .time) t) in
+        ap (λ (m : List DispersiveMaterial). ghOf (headOf after) m) (joined-same 16 (λ i. entryOf after i ∷ []) (λ i. entryOf b i ∷ []) (λ i _. ap (λ (m : DispersiveMaterial). m ∷ []) (of-same i)))
+        ∙ ap (λ (l : List ℕ). ghOf l ms) head-after
+        ∙ moved
+        ∙ sym (ap (λ (l : List ℕ). withClock (ghOf l ms) c) head-before)

@@ -1,0 +1,2 @@
+-- What the walks cite.
+pub mod Local

@@ -1,0 +1,105 @@
+-- The payloads as code writes and reads them, part by part. Assumes nothing.
+use Prim.Native.Nat.{ℕ, _+_, _≤_, _<_}
+use native.Mathlib.Omega.{arith}
+use mathlib.Core.Path.{_≡_, refl, sym, ap, _∙_}
+use mathlib.Core.Bool.{Bool}
+use mathlib.Core.List.{List, [], _∷_, _++_, append-nil}
+use lib.Dec.{ltb}
+use lib.ListN.{length, getD, drop, length-append}
+use Rattle.codec.specs.Lists.{put, part}
+use Rattle.codec.specs.Bytes.{le, unle, enc, nums, total}
+use Rattle.codec.proofs.Row.{nums-at, row-at}
+use Rattle.root.specs.declared.Spacings.{Spacings}
+use Rattle.dispersion.specs.declared.PoleSlot.{PoleSlot}
+use Rattle.dispersion.specs.declared.DispersiveMaterial.{DispersiveMaterial}
+use Rattle.dispersion.specs.Material.{blankSlot}
+use Rattle.grid.specs.declared.Clock.{Clock}
+use Rattle.grid.specs.declared.Region.{Region}
+use Rattle.grid.specs.declared.Record.{Record}
+use Rattle.grid.specs.Canon.{canonRegion}
+use Rattle.heads.specs.Numbers.{bits, kindNum, sizeWidths, flagWidths, countWidths, cornerWidths, floatWidths, planWidths, scaleWidths, flagNums, floatNums, ghWidths, ghNums, frontWidths, slotWidths, slotNums, mlWidths, mlNums}
+use Rattle.heads.proofs.Flat.{slot-long, at-any}
+use Rattle.heads.proofs.Puts.{put-more}
+
+-- ---- GH
+abbrev corners : Region → List ℕ
+corners g = g .i0 ∷ g .i1 ∷ g .j0 ∷ g .j1 ∷ g .k0 ∷ g .k1 ∷ []
+
+pub corners-put : (l m o : List ℕ) (at : ℕ) (g : Region) → at + 12 ≤ length l → m ≡ put l at (enc sizeWidths (g .i0 ∷ g .i1 ∷ g .j0 ∷ [])) →
+    o ≡ put m (at + 6) (enc sizeWidths (g .j1 ∷ g .k0 ∷ g .k1 ∷ [])) → o ≡ put l at (enc cornerWidths (corners g))
+unfolding total
+corners-put l m o at g h p q = put-more l m o at sizeWidths sizeWidths (g .i0 ∷ g .i1 ∷ g .j0 ∷ []) (g .j1 ∷ g .k0 ∷ g .k1 ∷ []) refl refl (omega arith) p q
+
+pub plan-put : (l m o n : List ℕ) (at nx ny nz built slots materials kind : ℕ) (f : List ℕ) → length f ≡ 7 → at + 17 ≤ length l →
+    m ≡ put l at (enc sizeWidths (nx ∷ ny ∷ nz ∷ [])) → o ≡ put m (at + 6) (enc flagWidths f) → n ≡ put o (at + 13) (enc countWidths (built ∷ slots ∷ materials ∷ kind ∷ [])) →
+    n ≡ put l at (enc planWidths ((nx ∷ ny ∷ nz ∷ []) ++ f ++ (built ∷ slots ∷ materials ∷ kind ∷ [])))
+unfolding total
+plan-put l m o n at nx ny nz built slots materials kind f e h p q r =
+    put-more l o n at (sizeWidths ++ flagWidths) countWidths ((nx ∷ ny ∷ nz ∷ []) ++ f) (built ∷ slots ∷ materials ∷ kind ∷ []) (omega (arith, length-append (nx ∷ ny ∷ nz ∷ []) f)) refl (omega arith)
+    (put-more l m o at sizeWidths flagWidths (nx ∷ ny ∷ nz ∷ []) f refl (sym e) (omega arith) p q) r
+
+pub scale-put : (l m o n : List ℕ) (at : ℕ) (g : Region) (s : Spacings) (c : Clock) (x : List ℕ) → x ≡ floatNums s (c .time) → at + 56 ≤ length l →
+    m ≡ put l at (enc cornerWidths (corners g)) → o ≡ put m (at + 12) (enc floatWidths x) → n ≡ put o (at + 52) (le 4 (c .steps)) →
+    n ≡ put l at (enc scaleWidths (corners g ++ floatNums s (c .time) ++ (c .steps ∷ [])))
+unfolding total enc
+scale-put l m o n at g s c x e h p q r =
+    put-more l o n at (cornerWidths ++ floatWidths) (4 ∷ []) (corners g ++ floatNums s (c .time)) (c .steps ∷ []) refl refl (omega arith)
+    (put-more l m o at cornerWidths floatWidths (corners g) (floatNums s (c .time)) refl refl (omega arith) p (q ∙ ap (λ (y : List ℕ). put m (at + 12) (enc floatWidths y)) e)) (r ∙ ap (put o (at + 52)) (sym (append-nil (le 4 (c .steps)))))
+
+pub head-put : (l m o : List ℕ) (at : ℕ) (r : Record) (f : List ℕ) (g : Region) (k : ℕ) → f ≡ flagNums (r .periodic) (r .active) (r .«layer_on») → g ≡ canonRegion (r .region) →
+    k ≡ kindNum (g .kind) → at + 73 ≤ length l →
+    m ≡ put l at (enc planWidths ((r .nx ∷ r .ny ∷ r .nz ∷ []) ++ f ++ (r .«built_count» ∷ r .«pole_slots» ∷ r .«material_count» ∷ k ∷ []))) →
+    o ≡ put m (at + 17) (enc scaleWidths (corners g ++ floatNums (r .spacings) (r .clock .time) ++ (r .clock .steps ∷ []))) → o ≡ put l at (enc ghWidths (ghNums r))
+unfolding total ghNums
+head-put l m o at r f g k ef eg ek h p q =
+    let first : List ℕ = (r .nx ∷ r .ny ∷ r .nz ∷ []) ++ flagNums (r .periodic) (r .active) (r .«layer_on») ++ (r .«built_count» ∷ r .«pole_slots» ∷ r .«material_count» ∷ k ∷ []) in
+    put-more l m o at planWidths scaleWidths first (corners g ++ floatNums (r .spacings) (r .clock .time) ++ (r .clock .steps ∷ [])) refl refl (omega arith)
+    (p ∙ ap (λ (x : List ℕ). put l at (enc planWidths ((r .nx ∷ r .ny ∷ r .nz ∷ []) ++ x ++ (r .«built_count» ∷ r .«pole_slots» ∷ r .«material_count» ∷ k ∷ [])))) ef) q
+    ∙ rw (ek, eg)
+
+pub head-read : (s : List ℕ) (at : ℕ) (n f c g x : List ℕ) (steps : ℕ) → n ≡ nums sizeWidths (drop at s) → f ≡ nums flagWidths (drop (at + 6) s) → c ≡ nums countWidths (drop (at + 13) s) →
+    g ≡ nums cornerWidths (drop (at + 17) s) → x ≡ nums floatWidths (drop (at + 29) s) → steps ≡ unle (part s (at + 69) 4) →
+    (getD n 0 0 ∷ getD n 1 0 ∷ getD n 2 0 ∷ getD f 0 0 ∷ getD f 1 0 ∷ getD f 2 0 ∷ getD f 3 0 ∷ getD f 4 0 ∷ getD f 5 0 ∷ getD f 6 0 ∷ getD c 0 0 ∷ getD c 1 0 ∷ getD c 2 0 ∷ getD c 3 0
+    ∷ getD g 0 0 ∷ getD g 1 0 ∷ getD g 2 0 ∷ getD g 3 0 ∷ getD g 4 0 ∷ getD g 5 0 ∷ getD x 0 0 ∷ getD x 1 0 ∷ getD x 2 0 ∷ getD x 3 0 ∷ getD x 4 0 ∷ steps ∷ []) ≡ nums ghWidths (drop at s)
+head-read s at n f c g x steps en ef ec eg ex es =
+    rw (en ∙ row-at 2 (2 ∷ 2 ∷ []) s at, ef ∙ nums-at flagWidths s at 6, ec ∙ nums-at countWidths s at 13, eg ∙ nums-at cornerWidths s at 17, ex ∙ nums-at floatWidths s at 29, es)
+    (sym (row-at 2 (2 ∷ 2 ∷ flagWidths ++ countWidths ++ scaleWidths) s at))
+
+-- ---- a material
+module _ (m : DispersiveMaterial) (e : PoleSlot) (long : length (m .poles) ≡ 4) where
+  abbrev numbers : (i : ℕ) → List ℕ
+  numbers i = slotNums (ltb i (m .«pole_count»)) (getD (m .poles) i blankSlot)
+
+  there : (i : ℕ) (a : List ℕ) → i < 4 → a ≡ slotNums (ltb i (m .«pole_count»)) (getD (m .poles) i e) → a ≡ numbers i
+  there i a h p = p ∙ ap (slotNums (ltb i (m .«pole_count»))) (at-any (m .poles) i e blankSlot (omega (arith, long, h)))
+
+  abbrev front : List ℕ
+  front = bits (m .«eps_inf») ∷ bits (m .sigma) ∷ bits (m .«mu_r») ∷ m .«pole_count» ∷ []
+
+  -- one place more
+  slot-put : (l u k : List ℕ) (at i : ℕ) (ws ns a : List ℕ) → i < 4 → length ws ≡ length ns → at + total ws + 25 ≤ length l → u ≡ put l at (enc ws ns) →
+      a ≡ slotNums (ltb i (m .«pole_count»)) (getD (m .poles) i e) → k ≡ put u (at + total ws) (enc slotWidths a) → k ≡ put l at (enc (ws ++ slotWidths) (ns ++ numbers i))
+  unfolding total
+  slot-put l u k at i ws ns a h f room p ea q =
+      put-more l u k at ws slotWidths ns (numbers i) f (sym (slot-long (ltb i (m .«pole_count»)) (getD (m .poles) i blankSlot))) (omega (arith, room)) p (q ∙ ap (λ (x : List ℕ). put u (at + total ws) (enc slotWidths x)) (there i a h ea))
+
+  pub material-put : (l u v w x y : List ℕ) (at : ℕ) (a b c d : List ℕ) → at + 125 ≤ length l →
+      a ≡ slotNums (ltb 0 (m .«pole_count»)) (getD (m .poles) 0 e) → b ≡ slotNums (ltb 1 (m .«pole_count»)) (getD (m .poles) 1 e) →
+      c ≡ slotNums (ltb 2 (m .«pole_count»)) (getD (m .poles) 2 e) → d ≡ slotNums (ltb 3 (m .«pole_count»)) (getD (m .poles) 3 e) →
+      u ≡ put l at (enc frontWidths front) → v ≡ put u (at + 25) (enc slotWidths a) → w ≡ put v (at + 50) (enc slotWidths b) → x ≡ put w (at + 75) (enc slotWidths c) →
+      y ≡ put x (at + 100) (enc slotWidths d) → y ≡ put l at (enc mlWidths (mlNums m))
+  unfolding total mlNums
+  material-put l u v w x y at a b c d h ea eb ec ed p q r s z =
+      let w1 : List ℕ = frontWidths ++ slotWidths in
+      let w2 : List ℕ = w1 ++ slotWidths in
+      let w3 : List ℕ = w2 ++ slotWidths in
+      let n1 : List ℕ = front ++ numbers 0 in
+      let n2 : List ℕ = n1 ++ numbers 1 in
+      let n3 : List ℕ = n2 ++ numbers 2 in
+      let k1 : length n1 ≡ 8 = length-append front (numbers 0) ∙ omega (arith, slot-long (ltb 0 (m .«pole_count»)) (getD (m .poles) 0 blankSlot)) in
+      let k2 : length n2 ≡ 12 = length-append n1 (numbers 1) ∙ omega (arith, k1, slot-long (ltb 1 (m .«pole_count»)) (getD (m .poles) 1 blankSlot)) in
+      let k3 : length n3 ≡ 16 = length-append n2 (numbers 2) ∙ omega (arith, k2, slot-long (ltb 2 (m .«pole_count»)) (getD (m .poles) 2 blankSlot)) in
+      slot-put l x y at 3 w3 n3 d (omega arith) (sym k3) (omega arith)
+      (slot-put l w x at 2 w2 n2 c (omega arith) (sym k2) (omega arith)
+      (slot-put l v w at 1 w1 n1 b (omega arith) (sym k1) (omega arith)
+      (slot-put l u v at 0 frontWidths front a (omega arith) refl (omega arith) p ea q) eb r) ec s) ed z

@@ -1,0 +1,16 @@
+use mathlib.Core.Path.{refl}
+use borrow.Author.Tests.{not-false, not-true}
+use Rattle.heads.specs.Numbers.{slotShaped}
+use Rattle.heads.proofs.slot_shaped.Statement.{statement}
+use Rattle.heads.proofs.slot_shaped.Tie as tie
+
+returns : tie.Need-returns
+unfolding slotShaped
+returns c = rw (not-true (c .before .args .counted) (c .if1 .taken)) refl
+
+returns-2 : tie.Need-returns-2
+unfolding slotShaped
+returns-2 c = rw (not-false (c .before .args .counted) (c .if1 .left)) refl
+
+pub slot-shaped-spec : {M : Type 1} → statement M
+slot-shaped-spec = tie.close (tie.spec returns returns-2)

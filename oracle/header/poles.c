@@ -1,0 +1,112 @@
+/* Poles: the coefficients of each kind by the textbook's formulas, and a step that moves the polarizations of all places by them. */
+#include "check.h"
+
+#define DT 0.25
+
+static bool same_coeffs(cichowiej_coeffs k, double a1, double a2, double a3)
+{
+    return same_bits(k.a1, a1) && same_bits(k.a2, a2) && same_bits(k.a3, a3);
+}
+
+static void coefficients(void)
+{
+    const double eps0 = 3.0, delta_eps = 5.0, omega0 = 1.1, gamma = 0.7, omega_p = 1.3, tau = 1.7;
+    const double denom = 1.0 + gamma * DT / 2.0, a2 = -(1.0 - gamma * DT / 2.0) / denom;
+    const double lorentz = delta_eps * omega0 * omega0, drude = omega_p * omega_p;
+    CHECK(same_coeffs(cichowiej_lorentz_coeffs(delta_eps, omega0, gamma, eps0, DT), (2.0 - omega0 * omega0 * DT * DT) / denom, a2,
+                      eps0 * lorentz * DT * DT / denom));
+    CHECK(same_coeffs(cichowiej_drude_coeffs(omega_p, gamma, eps0, DT), 2.0 / denom, a2, eps0 * drude * DT * DT / denom));
+    CHECK(same_coeffs(cichowiej_debye_coeffs(delta_eps, tau, eps0, DT), 1.0 - DT / tau, 0.0, eps0 * delta_eps * DT / tau));
+}
+
+/* a room of another length or another tag: false, and nothing written */
+static void no_coefficients(void)
+{
+    double out[CICHOWIEJ_COEFFS_LENGTH + 1] = {0.0};
+    out[0] = 77.0;
+    CHECK(!cichowiej_ade_coeffs(CICHOWIEJ_DEBYE, 1.0, 1.0, 0.0, 1.0, 1.0, out, CICHOWIEJ_COEFFS_LENGTH - 1));
+    CHECK(!cichowiej_ade_coeffs(CICHOWIEJ_DEBYE, 1.0, 1.0, 0.0, 1.0, 1.0, out, CICHOWIEJ_COEFFS_LENGTH + 1));
+    CHECK(!cichowiej_ade_coeffs(CICHOWIEJ_NO_POLE, 1.0, 1.0, 0.0, 1.0, 1.0, out, CICHOWIEJ_COEFFS_LENGTH));
+    CHECK(!cichowiej_ade_coeffs(CICHOWIEJ_DEBYE + 1, 1.0, 1.0, 0.0, 1.0, 1.0, out, CICHOWIEJ_COEFFS_LENGTH));
+    CHECK(out[0] == 77.0);
+    CHECK(cichowiej_ade_coeffs(CICHOWIEJ_DEBYE, 1.0, 1.0, 0.0, 1.0, 1.0, out, CICHOWIEJ_COEFFS_LENGTH) && out[0] == 0.0);
+    CHECK(cichowiej_ade_coeffs(CICHOWIEJ_LORENTZ, 1.0, 1.0, 0.0, 1.0, 1.0, out, CICHOWIEJ_COEFFS_LENGTH) && out[0] == 1.0);
+}
+
+static cichowiej_material four_poles(void)
+{
+    const cichowiej_pole lorentz = {CICHOWIEJ_LORENTZ, 5.0, 1.1, 0.7, 0.0, 0.0}, drude = {CICHOWIEJ_DRUDE, 0.0, 0.0, 0.6, 1.3, 0.0};
+    const cichowiej_pole water = {CICHOWIEJ_DEBYE, 3.0, 0.0, 0.0, 0.0, 1.7}, second = {CICHOWIEJ_LORENTZ, 2.0, 0.9, 0.4, 0.0, 0.0};
+    cichowiej_material material = plain(2.0, 0.5, 1.5);
+    material.pole_count = 4;
+    material.poles[0] = lorentz;
+    material.poles[1] = drude;
+    material.poles[2] = water;
+    material.poles[3] = second;
+    return material;
+}
+
+/* p, p before and dp of component c at a cell after a step, from what stood there before it */
+static void cell_moved(const held *before, const held *after, size_t c, size_t cell)
+{
+    const double eps0 = cichowiej_eps0(), *old = before->study.stores.poles, *now = after->study.stores.poles;
+    const size_t cells = before->study.stores.lengths.ids, slots = CICHOWIEJ_MAX_POLE_SLOTS;
+    cichowiej_coeffs k[4];
+    double dp = 0.0;
+    size_t slot;
+    k[0] = cichowiej_lorentz_coeffs(5.0, 1.1, 0.7, eps0, DT);
+    k[1] = cichowiej_drude_coeffs(1.3, 0.6, eps0, DT);
+    k[2] = cichowiej_debye_coeffs(3.0, 1.7, eps0, DT);
+    k[3] = cichowiej_lorentz_coeffs(2.0, 0.9, 0.4, eps0, DT);
+    for (slot = 0; slot < LENGTH(k); slot++) {
+        const size_t p = cichowiej_part_p(slot, c) * cells + cell, q = cichowiej_part_p_before(slots, slot, c) * cells + cell;
+        const double moved = k[slot].a1 * old[p] + k[slot].a2 * old[q] + k[slot].a3 * before->study.stores.e[c * cells + cell];
+        CHECK(same_bits(now[p], moved) && same_bits(now[q], old[p]));
+        dp += moved - old[p];
+    }
+    CHECK(same_bits(now[cichowiej_part_dp(slots, c) * cells + cell], dp));
+}
+
+static void stepped(void)
+{
+    static held before, after;
+    const cichowiej_material material = four_poles();
+    cichowiej_study *s = &before.study;
+    size_t c, cell;
+    lend(&before, 2, 3, 2, CICHOWIEJ_MAX_POLE_SLOTS);
+    CHECK(cichowiej_study_open(s, 2, 3, 2, CICHOWIEJ_MAX_POLE_SLOTS, 1.0, 1.0, 1.0, DT) == CICHOWIEJ_ACCEPTED);
+    CHECK(cichowiej_study_add_material(s, &material, NULL) == CICHOWIEJ_ACCEPTED);
+    CHECK(cichowiej_study_build_dispersion(s) == CICHOWIEJ_ACCEPTED);
+    fill(&before, 1);
+    for (cell = 0; cell < s->stores.lengths.ids; cell++)
+        s->stores.ids[cell] = 1;
+    copy_held(&after, &before);
+    CHECK(cichowiej_study_step(&after.study, 0.0) == CICHOWIEJ_ACCEPTED);
+    for (c = CICHOWIEJ_PART_X; c <= CICHOWIEJ_PART_Z; c++)
+        for (cell = 0; cell < s->stores.lengths.ids; cell++)
+            cell_moved(&before, &after, c, cell);
+}
+
+/* the poles of a material that is in every cell do nothing before dispersion is built */
+static void not_built(void)
+{
+    static held before, after;
+    const cichowiej_material material = debye(2.0, 3.0);
+    open_held(&before, 2, 2, 2, 1);
+    CHECK(cichowiej_study_add_material(&before.study, &material, NULL) == CICHOWIEJ_ACCEPTED);
+    fill(&before, 2);
+    copy_held(&after, &before);
+    CHECK(cichowiej_study_step(&after.study, 0.0) == CICHOWIEJ_ACCEPTED);
+    CHECK(same_store(&before, &after, 6) && !same_store(&before, &after, 0));
+    CHECK(cichowiej_study_build_dispersion(&before.study) == CICHOWIEJ_ACCEPTED);
+    CHECK(cichowiej_study_step(&before.study, 0.0) == CICHOWIEJ_ACCEPTED);
+    CHECK(before.study.stores.poles[1] != 0.0);
+}
+
+void poles(void)
+{
+    coefficients();
+    no_coefficients();
+    stepped();
+    not_built();
+}

@@ -14,7 +14,8 @@ use Rattle.codec.specs.Lists.{put}
 use Rattle.codec.proofs.Lists.{put-length, put-before, put-inside}
 use Rattle.dispersion.specs.declared.AdeCoeffs.{AdeCoeffs}
 use Rattle.dispersion.specs.Ade.{adeCoeffs}
-use Rattle.cells.proofs.Blocks.{joined-same, block-end}
+use Rattle.cells.specs.Reading.{block-end}
+use Rattle.cells.proofs.Blocks.{joined-same}
 use Rattle.cells.proofs.Sweeps.{parts-whole}
 use Rattle.cells.proofs.Pointwise.{part-row}
 use Rattle.grid.specs.declared.Record.{Record}
@@ -22,8 +23,8 @@ use Rattle.grid.specs.Fault.{poleCount, polesFit, countsFit, layerFits, regionF
 use Rattle.grid.proofs.Tests.{and-left, and-right, first-none}
 use Rattle.grid.specs.Stores.{numberAt, cells}
 use Rattle.grid.proofs.Judging.{all-fails}
-use Rattle.ade.specs.Polarization.{polarized, poleAt, polesOf, pOld, pBefore, pNew, pAfter, beforeAfter, dpAfter, poleNumber, polesAfter}
-use Rattle.ade.specs.Runs.{Ready, Room, coeffAt, Table, Counts, moved, through, Changed, fieldAt, byCell}
+use Rattle.ade.specs.Polarization.{polarized, poleAt, poleCountAt, pOld, pPrev, pNew, pAfter, pPrevAfter, dpAfter, poleNumber, polesAfter}
+use Rattle.ade.specs.Inner.Runs.{PolesReady, PolesRoom, coeffAt, Table, Counts, moved, through, Changed, fieldAt, byCell}
 use Rattle.ade.proofs.Columns.{moved-same}
 
 -- ---- a test that only n itself can change
@@ -77,7 +78,7 @@ module _ (eps0 : Float) (r : Record) (ids : List ℕ) (electric old : List Float
   change c slot = new slot c ⊖ own slot c
 
   abbrev count : ℕ
-  count = polesOf eps0 r ids electric old m
+  count = poleCountAt eps0 r ids electric old m
 
   -- its number n once q passes are done: slot 0 with components 0, 1, 2, then slot 1 and so on, as far as slots are counted
   unfoldable G : (q n : ℕ) → Float
@@ -117,7 +118,7 @@ module _ (eps0 : Float) (r : Record) (ids : List ℕ) (electric old : List Float
     new-p : G (I + 1) I ≡ new s c
     new-p = range-p (I + 1) I (omega arith) ∙ rw (lt-ltb I (I + 1) (omega arith), third, left-over) refl
 
-    old-b : G I (3 * P + I) ≡ pBefore eps0 r ids electric old s c m
+    old-b : G I (3 * P + I) ≡ pPrev eps0 r ids electric old s c m
     old-b =
         let e : 3 * P + I - 3 * P ≡ I = omega arith in
         range-b I (3 * P + I) (omega arith) (omega arith) ∙ rw (e, le-ltb I I (omega arith)) refl
@@ -215,7 +216,7 @@ module _ (eps0 : Float) (r : Record) (ids : List ℕ) (electric old : List Float
   last-p : (n : ℕ) → n < 3 * P → G (3 * count) n ≡ pAfter eps0 r ids electric old (n / 3) (n % 3) m
   last-p n h = range-p (3 * count) n h ∙ rw (same-test n count, ← own-place n) refl
 
-  last-b : (n x : ℕ) → x < 3 * P → n ≡ 3 * P + x → G (3 * count) n ≡ beforeAfter eps0 r ids electric old (x / 3) (x % 3) m
+  last-b : (n x : ℕ) → x < 3 * P → n ≡ 3 * P + x → G (3 * count) n ≡ pPrevAfter eps0 r ids electric old (x / 3) (x % 3) m
   last-b n x h e =
       let d : 3 * P + x - 3 * P ≡ x = omega arith in
       let w : 3 * (x / 3) + x % 3 ≡ x = omega arith in
@@ -294,7 +295,7 @@ fit-at r i fit h = go (leb (poleCount r i) (r .«pole_slots»)) refl
         let z : _≡_ {A = ℕ} 0 1 = cc in
         absurd (omega arith)
 
-module _ (eps0 : Float) (r : Record) (ids : List ℕ) (electric old : List Float) (ready : Ready r ids electric old) where
+module _ (eps0 : Float) (r : Record) (ids : List ℕ) (electric old : List Float) (ready : PolesReady r ids electric old) where
   abbrev N : ℕ
   N = cells r
 
@@ -362,7 +363,7 @@ module _ (eps0 : Float) (r : Record) (ids : List ℕ) (electric old : List Float
   pub few-poles : (i : ℕ) → i < M → poleCount r i ≤ 4
   few-poles i h = omega (arith, fit-at r i (ready .fit) h)
 
-  pub room : (start : List Float) → length start ≡ length old → Room N Slots electric start
+  pub room : (start : List Float) → length start ≡ length old → PolesRoom N Slots electric start
   room start e = record {
     few = omega arith;
     field = omega arith;

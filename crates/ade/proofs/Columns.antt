@@ -12,10 +12,10 @@ use lib.Ieee.{Float, nan}
 use borrow.Author.Tests.{ltb-true, ltb-false, eqb-true, eqb-false}
 use Rattle.root.specs.Rounded.{_⊕_, _⊖_}
 use Rattle.dispersion.specs.declared.AdeCoeffs.{AdeCoeffs}
-use Rattle.cells.proofs.Blocks.{block-end}
+use Rattle.cells.specs.Reading.{block-end}
 use Rattle.grid.specs.Stores.{numberAt}
 use Rattle.ade.specs.Polarization.{polarized}
-use Rattle.ade.specs.Runs.{coeffAt, turned, moved, tripled, through, Changed, fieldAt, bySpan, byThree, byRun, byCell, RunEnd}
+use Rattle.ade.specs.Inner.Runs.{coeffAt, storeMoved, moved, tripled, through, Changed, fieldAt, bySpan, byThree, byRun, byCell, RunEnd}
 
 -- two places of two blocks, or two of one, are two places
 same-block : (n x i a m : ℕ) → a < n → m < n → x * n + a ≡ i * n + m → x ≡ i
@@ -43,8 +43,8 @@ module _ (n : ℕ) (s : List Float) (i m : ℕ) (v : Float) (k : m < n) where
 
 module _ (n : ℕ) (k : AdeCoeffs) (e : Float) (i j d m : ℕ) (s : List Float) (l : m < n) where
   turned-column : (x : ℕ) → i * n + m < length s → j * n + m < length s → d * n + m < length s →
-      numberAt (turned k e (i * n + m) (j * n + m) (d * n + m) s) n x m ≡ moved k e i j d (λ y. numberAt s n y m) x
-  unfolding turned moved
+      numberAt (storeMoved k e (i * n + m) (j * n + m) (d * n + m) s) n x m ≡ moved k e i j d (λ y. numberAt s n y m) x
+  unfolding storeMoved moved
   turned-column x a b c =
       let p : Float = numberAt s n i m in
       let q : Float = polarized k p (numberAt s n j m) e in
@@ -56,8 +56,8 @@ module _ (n : ℕ) (k : AdeCoeffs) (e : Float) (i j d m : ℕ) (s : List Float) 
       set-column n s2 d m v l x (omega arith)
       ∙ ap (cond (eqb x d) v) (set-column n s1 j m p l x (omega arith) ∙ ap (cond (eqb x j) p) (set-column n s i m q l x a))
 
-  turned-elsewhere : (x a : ℕ) → a < n → (a ≡ m → ⊥) → numberAt (turned k e (i * n + m) (j * n + m) (d * n + m) s) n x a ≡ numberAt s n x a
-  unfolding turned
+  turned-elsewhere : (x a : ℕ) → a < n → (a ≡ m → ⊥) → numberAt (storeMoved k e (i * n + m) (j * n + m) (d * n + m) s) n x a ≡ numberAt s n x a
+  unfolding storeMoved
   turned-elsewhere x a h o =
       let p : Float = numberAt s n i m in
       let q : Float = polarized k p (numberAt s n j m) e in
@@ -67,8 +67,8 @@ module _ (n : ℕ) (k : AdeCoeffs) (e : Float) (i j d m : ℕ) (s : List Float) 
       ∙ set-elsewhere n s1 j m p l x a h o
       ∙ set-elsewhere n s i m q l x a h o
 
-  turned-length : length (turned k e (i * n + m) (j * n + m) (d * n + m) s) ≡ length s
-  unfolding turned
+  turned-length : length (storeMoved k e (i * n + m) (j * n + m) (d * n + m) s) ≡ length s
+  unfolding storeMoved
   turned-length = simp length-set
 
 -- four of the cell's numbers tell what becomes of one
@@ -182,7 +182,7 @@ cells-more co counts ids electric n slots a z old now new p r q =
 -- ---- one cell more
 pub span-more : (k : AdeCoeffs) (electric : List Float) (n c i j d a m : ℕ) (old now new : List Float) → Changed n a m (bySpan k electric n c i j d) old now →
     a ≤ m → m < n → i * n + n ≤ length old → j * n + n ≤ length old → d * n + n ≤ length old →
-    new ≡ turned k (getD electric (c * n + m) nan) (i * n + m) (j * n + m) (d * n + m) now → Changed n a (m + 1) (bySpan k electric n c i j d) old new
+    new ≡ storeMoved k (getD electric (c * n + m) nan) (i * n + m) (j * n + m) (d * n + m) now → Changed n a (m + 1) (bySpan k electric n c i j d) old new
 span-more k electric n c i j d a m old now new p le l b1 b2 b3 e = record {
   same = ap length e ∙ turned-length n k v i j d m now l ∙ p .same;
   done = λ x y h w u. at x y h w u (eqb y m) refl;

@@ -16,7 +16,7 @@ use Rattle.dispersion.specs.Material.{blankSlot}
 use Rattle.grid.specs.declared.Record.{Record}
 use Rattle.grid.specs.Fault.{beyond, poleCount}
 use Rattle.ade.specs.Polarization.{poleAt}
-use Rattle.ade.specs.Runs.{coeffAt, Placed, Listed, Table, Counts, RunEnd}
+use Rattle.ade.specs.Inner.Runs.{coeffAt, CoeffPut, Listed, Table, Counts, RunEnd}
 
 -- within a list the default does not matter
 pub getD-within : {A : Type 0} (l : List A) (i : ℕ) (d e : A) → i < length l → getD l i d ≡ getD l i e
@@ -55,7 +55,7 @@ coeffs-same : (co old : List Float) (b c : ℕ) → getD co (3 * b) nan ≡ getD
     getD co (3 * b + 2) nan ≡ getD old (3 * c + 2) nan → coeffAt co b ≡ coeffAt old c
 coeffs-same co old b c p q r = rw (p, q, r)
 
-pub placed : (co : List Float) (i : ℕ) (k : AdeCoeffs) → 3 * i + 2 < length co → Placed k i co (set (set (set co (3 * i) (k .a1)) (3 * i + 1) (k .a2)) (3 * i + 2) (k .a3))
+pub placed : (co : List Float) (i : ℕ) (k : AdeCoeffs) → 3 * i + 2 < length co → CoeffPut k i co (set (set (set co (3 * i) (k .a1)) (3 * i + 1) (k .a2)) (3 * i + 2) (k .a3))
 placed co i k h = record {
   same = simp length-set;
   here = rw (first-three co i (k .a1) (k .a2) (k .a3) h, second-three co i (k .a1) (k .a2) (k .a3) h, third-three co i (k .a1) (k .a2) (k .a3) h);
@@ -71,7 +71,7 @@ pub listed-none : (eps0 dt : Float) (material : DispersiveMaterial) (i : ℕ) (s
 listed-none eps0 dt material i s = record { same = refl; here = λ slot h. absurd (omega arith); below = λ b h. refl }
 
 pub listed-more : (eps0 dt : Float) (material : DispersiveMaterial) (i z : ℕ) (k : AdeCoeffs) (old now new : List Float) → Listed eps0 dt material i z old now →
-    Placed k (4 * i + z) now new → k ≡ adeCoeffs eps0 dt (getD (material .poles) z blankSlot .pole) → Listed eps0 dt material i (z + 1) old new
+    CoeffPut k (4 * i + z) now new → k ≡ adeCoeffs eps0 dt (getD (material .poles) z blankSlot .pole) → Listed eps0 dt material i (z + 1) old new
 listed-more eps0 dt material i z k old now new p q e = record {
   same = q .same ∙ p .same;
   here = λ slot h. at slot h (eqb slot z) refl;

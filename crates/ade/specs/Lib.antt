@@ -1,3 +1,3 @@
 -- What the contracts of ade cite.
 pub mod Polarization
-pub mod Runs
+pub mod Inner

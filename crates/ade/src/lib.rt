@@ -7,7 +7,7 @@ ghost use Rattle.dispersion.specs.Ade.{adeCoeffs};
 ghost use Rattle.dispersion.specs.Material.{blankSlot};
 ghost use Rattle.grid.specs.Fault.{poleCount};
 ghost use Rattle.ade.specs.Polarization.{polarized, polesAfter};
-ghost use Rattle.ade.specs.Runs.{Ready, Placed, Listed, Table, Counts, coeffs, turned, Changed, bySpan, byThree, byRun, byCell, RunEnd, Room};
+ghost use Rattle.ade.specs.Inner.Runs.{PolesReady, CoeffPut, Listed, Table, Counts, coeffs, storeMoved, Changed, bySpan, byThree, byRun, byCell, RunEnd, PolesRoom};
 use dispersion::AdeCoeffs;
 use dispersion::DispersiveMaterial;
 use grid::Record;
@@ -29,7 +29,7 @@ fn grown(dp: f64, q: f64, p: f64) -> f64
 // One cell's three numbers: p at i, p before at j, dp at d.
 fn turn(poles: &mut [f64], a1: f64, a2: f64, a3: f64, e: f64, i: usize, j: usize, d: usize)
     requires { ⌜ (i < length (now poles)) × (j < length (now poles)) × (d < length (now poles)) ⌝ }
-    ensures { λ _. ⌜ now (poles .exit) ≡ turned (coeffs a1 a2 a3) e i j d (now (poles .entry)) ⌝ }
+    ensures { λ _. ⌜ now (poles .exit) ≡ storeMoved (coeffs a1 a2 a3) e i j d (now (poles .entry)) ⌝ }
 {
     let p = poles[i];
     let q = polarized_of(a1, a2, a3, p, poles[j], e);
@@ -104,7 +104,7 @@ fn run(
     a: usize,
     z: usize,
 )
-    requires { ⌜ Room n slots (now e) (now poles) ⌝ }
+    requires { ⌜ PolesRoom n slots (now e) (now poles) ⌝ }
     requires { ⌜ (base ≤ 60) × (count ≤ slots) × (a ≤ z) × (z ≤ n) ⌝ }
     ensures { λ _. ⌜ Changed n a z (byRun (now (co .entry)) (now (e .entry)) n slots base count) (now (poles .entry)) (now (poles .exit)) ⌝ }
 {
@@ -153,7 +153,7 @@ fn advance_cells(
     n: usize,
     slots: usize,
 )
-    requires { ⌜ Room n slots (now e) (now poles) ⌝ }
+    requires { ⌜ PolesRoom n slots (now e) (now poles) ⌝ }
     requires { ⌜ n ≤ length (now ids) ⌝ }
     requires { ⌜ ((m : ℕ) → m < n → (getD (now ids) m 0 < 16) × (getD (now counts) (getD (now ids) m 0) 0 ≤ slots)) ⌝ }
     ensures { λ _. ⌜ Changed n 0 n (byCell (now (co .entry)) (now (counts .entry)) (now (ids .entry)) (now (e .entry)) n slots) (now (poles .entry)) (now (poles .exit)) ⌝ }
@@ -169,7 +169,7 @@ fn advance_cells(
 
 fn place(co: &mut [f64; 192], b: usize, k: AdeCoeffs)
     requires { ⌜ (b < 64) × (length (now co) ≡ 192) ⌝ }
-    ensures { λ _. ⌜ Placed k b (now (co .entry)) (now (co .exit)) ⌝ }
+    ensures { λ _. ⌜ CoeffPut k b (now (co .entry)) (now (co .exit)) ⌝ }
 {
     co[3 * b] = k.a1;
     co[3 * b + 1] = k.a2;
@@ -226,7 +226,7 @@ fn count_poles(counts: &mut [usize; 16], r: Record)
 }
 
 pub fn advance(eps0: f64, r: Record, ids: &[u32], e: &[f64], poles: &mut [f64])
-    requires { ⌜ Ready r (now ids) (now e) (now poles) ⌝ }
+    requires { ⌜ PolesReady r (now ids) (now e) (now poles) ⌝ }
     ensures { λ _. ⌜ now (poles .exit) ≡ polesAfter eps0 r (now (ids .entry)) (now (e .entry)) (now (poles .entry)) ⌝ }
 {
     let mut co = [0.0; 192];

@@ -20,7 +20,7 @@ use Rattle.cpml.specs.Absorber.{Absorbed, absorbed}
 use Rattle.block.specs.Block.{blockLength, blockFine, blockRecord}
 use Rattle.format.specs.Rewind.{readRecord, readStores, bytesFault, rewindFault, rewindCall}
 use Rattle.calls.proofs.Kept.{kept-old}
-use Rattle.calls.specs.Blocks.{sent, blockAfter, passed, onBlock, clockAfter, moved, clockOnBlock, told, readBlock, lentBlock, openOnBlock, rewindOnBlock, answered, answering, materialFault, materialOf, addBytesFault, addBytesCall, axisBits, Named, named, naming}
+use Rattle.calls.specs.Blocks.{sent, blockAfter, passed, onBlock, clockAfter, clockPassed, clockOnBlock, readout, readBlock, lentBlock, openOnBlock, rewindOnBlock, answered, answering, materialFault, materialOf, addBytesFault, addBytesCall, axisBits, Named, named, naming}
 
 -- ---- the call
 module _ {A : Type 0} (f : Record → Outcome A) (b : List ℕ) (kept : A) where
@@ -43,17 +43,17 @@ module _ {A : Type 0} (f : Record → Outcome A) (b : List ℕ) (kept : A) where
   pub clock-well : {b' : List ℕ} {r q : Record} {n : ℕ} {s : A} → blockFine b ≡ true → r ≡ blockRecord b → outcome n q s ≡ f r → b' ≡ clockAfter n (q .clock) b → sent n b' s ≡ clockOnBlock f b kept
   unfolding clockOnBlock
   clock-well {b'} {r} {q} {n} {s} fine er eo eb =
-      rw fine (ap (λ (x : List ℕ). sent n x s) eb ∙ ap (λ (o : Outcome A). moved o b) (eo ∙ ap f er))
+      rw fine (ap (λ (x : List ℕ). sent n x s) eb ∙ ap (λ (o : Outcome A). clockPassed o b) (eo ∙ ap f er))
 
 -- ---- the call on a block lent to read
 module _ {A : Type 0} (f : Record → Outcome A) (b : List ℕ) (kept : A) where
-  pub unread : {s : A} → blockFine b ≡ false → s ≡ kept → told badStudy s ≡ readBlock f b kept
+  pub unread : {s : A} → blockFine b ≡ false → s ≡ kept → readout badStudy s ≡ readBlock f b kept
   unfolding readBlock
   unread e a = rw (e, a)
 
-  pub reads : {r q : Record} {n : ℕ} {s : A} → blockFine b ≡ true → r ≡ blockRecord b → outcome n q s ≡ f r → told n s ≡ readBlock f b kept
+  pub reads : {r q : Record} {n : ℕ} {s : A} → blockFine b ≡ true → r ≡ blockRecord b → outcome n q s ≡ f r → readout n s ≡ readBlock f b kept
   unfolding readBlock
-  reads fine er eo = rw fine (ap (λ (o : Outcome A). told (o .refusal) (o .rest)) (eo ∙ ap f er))
+  reads fine er eo = rw fine (ap (λ (o : Outcome A). readout (o .refusal) (o .rest)) (eo ∙ ap f er))
 
 -- ---- room for an answer
 pub answering-of : {A : Type 0} {n : ℕ} {q : Record} {v : A} {o : Outcome A} (room : List A) {room' : List A} → outcome n q v ≡ o → room' ≡ answered v room → outcome n q room' ≡ answering o room

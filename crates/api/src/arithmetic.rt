@@ -5,7 +5,8 @@ ghost use Rattle.root.specs.Constants as vacuum;
 ghost use Rattle.root.specs.Courant.{courantNumber, courantLimit, stable};
 ghost use Rattle.dispersion.specs.Ade.{adeCoeffs};
 ghost use Rattle.boundary.specs.Lossy.{power, wallSigma, stronger};
-ghost use Rattle.calls.specs.Poles.{poleOf, taken, coeffsOr};
+ghost use Rattle.heads.specs.Numbers.{poleOf};
+ghost use Rattle.calls.specs.Poles.{coeffsAsked, coeffsOr};
 use boundary::lossy;
 use calls::poles;
 use root::Spacings;
@@ -77,7 +78,7 @@ pub extern "C" fn cichowiej_ade_coeffs(
     dt: f64,
     out: &mut [f64],
 ) -> bool
-    ensures { λ r. ⌜ (r ≡ taken tag (now (out .entry))) × (now (out .exit) ≡ coeffsOr r (adeCoeffs eps0 dt (poleOf tag first second third)) (now (out .entry))) ⌝ }
+    ensures { λ r. ⌜ (r ≡ coeffsAsked tag (now (out .entry))) × (now (out .exit) ≡ coeffsOr r (adeCoeffs eps0 dt (poleOf tag first second third)) (now (out .entry))) ⌝ }
 {
     poles::put_coeffs(tag, first, second, third, eps0, dt, out)
 }

@@ -2,7 +2,7 @@
 ghost use lib.Dec.{T};
 ghost use Rattle.codec.specs.Bytes.{bytesFit};
 ghost use Rattle.grid.specs.Stores.{stores};
-ghost use Rattle.format.specs.Savable.{StoresHeld};
+ghost use Rattle.format.specs.InMemory.{StoresHeld};
 
 fn nothing() {}
 

@@ -2,21 +2,21 @@
 ghost use mathlib.Core.Path.{_≡_};
 ghost use Rattle.grid.specs.Stores.{stores};
 ghost use Rattle.format.specs.Save.{lengthCall, saveCall};
-ghost use Rattle.calls.specs.Blocks.{sent, told, readBlock, rewindOnBlock, answered, answering};
+ghost use Rattle.calls.specs.Blocks.{sent, readout, readBlock, rewindOnBlock, answered, answering};
 ghost use lib.ListN.{length as long, take};
 ghost use mathlib.Core.List.{[]};
 ghost use Rattle.grid.specs.Stores.{lengthsOf};
-ghost use Rattle.format.specs.Save.{saveLength as bytesLong};
+ghost use Rattle.format.specs.Save.{saveLength};
 ghost use Rattle.block.specs.Block.{blockRecord};
 ghost use Rattle.study.specs.History.{doing, saving, rewinding};
-ghost use Rattle.study.specs.World.{saveLength, numbers};
+ghost use Rattle.study.specs.World.{askLength, numbers};
 ghost use Rattle.study.specs.Calls.{Silently, Numbering, MadeOn, replyOf};
 use crate::on_block;
 
 #[no_mangle]
 pub extern "C" fn cichowiej_save_length(b: &[u8], length: &mut [usize]) -> u32
-    ensures { λ n. ⌜ told n (now (length .exit)) ≡ readBlock (λ r. answering (lengthCall r) (now (length .entry))) (now (b .entry)) (answered 0 (now (length .entry))) ⌝ }
-    ensures honest { λ n. ⌜ Numbering (now (b .entry)) (now (b .entry)) (λ s. Unit {0}) (λ s. s) (doing (saveLength (long (now (length .entry))))) n (now (length .entry)) (now (length .exit)) ⌝ }
+    ensures { λ n. ⌜ readout n (now (length .exit)) ≡ readBlock (λ r. answering (lengthCall r) (now (length .entry))) (now (b .entry)) (answered 0 (now (length .entry))) ⌝ }
+    ensures honest { λ n. ⌜ Numbering (now (b .entry)) (now (b .entry)) (λ s. Unit {0}) (λ s. s) (doing (askLength (long (now (length .entry))))) n (now (length .entry)) (now (length .exit)) ⌝ }
 {
     on_block::saving::save_length(b, length)
 }
@@ -35,8 +35,8 @@ pub extern "C" fn cichowiej_save<'a>(
     ids: &[u32],
     out: &mut [u8],
 ) -> u32
-    ensures { λ n. ⌜ told n (now (out .exit)) ≡ readBlock (λ r. saveCall r (stores (now (e .entry)) (now (h .entry)) (now (media .entry)) (now («psi_e» .entry)) (now («psi_h» .entry)) (now (tables .entry)) (now (poles .entry)) (now (aux .entry)) (now (ids .entry))) (now (out .entry))) (now (b .entry)) (now (out .entry)) ⌝ }
-    ensures honest { λ n. ⌜ MadeOn (now (b .entry)) (now (b .entry)) (λ s. s ≡ stores (now (e .entry)) (now (h .entry)) (now (media .entry)) (now («psi_e» .entry)) (now («psi_h» .entry)) (now (tables .entry)) (now (poles .entry)) (now (aux .entry)) (now (ids .entry))) (λ s. s) (saving (long (now (out .entry)))) (numbers (now (out .entry))) (replyOf n (numbers []) (numbers (take (bytesLong (blockRecord (now (b .entry)))) (now (out .exit))))) (numbers (now (out .exit))) ⌝ }
+    ensures { λ n. ⌜ readout n (now (out .exit)) ≡ readBlock (λ r. saveCall r (stores (now (e .entry)) (now (h .entry)) (now (media .entry)) (now («psi_e» .entry)) (now («psi_h» .entry)) (now (tables .entry)) (now (poles .entry)) (now (aux .entry)) (now (ids .entry))) (now (out .entry))) (now (b .entry)) (now (out .entry)) ⌝ }
+    ensures honest { λ n. ⌜ MadeOn (now (b .entry)) (now (b .entry)) (λ s. s ≡ stores (now (e .entry)) (now (h .entry)) (now (media .entry)) (now («psi_e» .entry)) (now («psi_h» .entry)) (now (tables .entry)) (now (poles .entry)) (now (aux .entry)) (now (ids .entry))) (λ s. s) (saving (long (now (out .entry)))) (numbers (now (out .entry))) (replyOf n (numbers []) (numbers (take (saveLength (blockRecord (now (b .entry)))) (now (out .exit))))) (numbers (now (out .exit))) ⌝ }
 {
     on_block::saving::save(b, e, h, media, psi_e, psi_h, tables, poles, aux, ids, out)
 }

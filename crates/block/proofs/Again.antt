@@ -1,36 +1,27 @@
 -- Numbers that a save may have, read as a record or a material and written again, are the same numbers. Assumes nothing.
-use Prim.Native.Nat.{ℕ, zero, suc, _+_, _*_, _^_, _≤_, _<_}
+use Prim.Native.Nat.{ℕ, zero, suc, _+_, _^_, _≤_, _<_}
 use native.Mathlib.Omega.{arith}
-use mathlib.Core.Path.{_≡_, refl, sym, ap, _∙_, subst}
-use mathlib.Core.Bool.{Bool, true, false, cond, _&&_, _||_}
+use mathlib.Core.Path.{_≡_, refl, sym, _∙_, subst}
+use mathlib.Core.Bool.{Bool, true, false, _&&_, _||_}
 use mathlib.Core.List.{List, [], _∷_, _++_}
 use borrow.Author.Tests.{leb-true, eqb-true}
-use lib.Dec.{T, leb, ltb, eqb, lt→ltb}
-use lib.ListN.{length, getD, take, drop, replicate, length-drop, take-append-drop}
+use lib.Dec.{T, leb, ltb, eqb}
+use lib.ListN.{length, getD}
 use lib.Seq.{ext-getD}
 use lib.Ieee.{binary64, ofBits}
-use Rattle.codec.specs.Lists.{part, every}
-use Rattle.codec.specs.Bytes.{fine, bytesFit, enc, fitAll, total}
-use Rattle.codec.proofs.Lists.{part-drop, every-of, every-drop}
+use Rattle.codec.specs.Bytes.{fine, fitAll, bits}
 use Rattle.codec.proofs.Patterns.{bits-back}
-use Rattle.codec.proofs.Row.{fit-at, nums-fit, enc-nums}
+use Rattle.codec.proofs.Row.{fit-at}
 use Rattle.dispersion.specs.declared.DispersiveMaterial.{DispersiveMaterial}
 use Rattle.dispersion.specs.declared.PoleSlot.{PoleSlot}
-use Rattle.dispersion.specs.Material.{vacuumMaterial}
 use Rattle.cells.specs.Cells.{joined, row}
-use Rattle.cells.proofs.Blocks.{joined-same, length-row}
-use Rattle.cells.proofs.Sweeps.{parts-whole}
+use Rattle.cells.specs.Reading.{length-row}
 use Rattle.cells.proofs.Written.{getD-row}
 use Rattle.grid.specs.declared.Region.{Region}
 use Rattle.grid.specs.Canon.{canonRegion}
-use Rattle.grid.specs.Fault.{beyond, allBelow}
+use Rattle.grid.specs.Fault.{allBelow}
 use Rattle.grid.proofs.Tests.{and-left, and-right}
-use Rattle.heads.specs.Numbers.{bits, flagNum, kindNum, kindOf, ghWidths, ghNums, flagsFine, cornersFine, ghShaped, ghFine, ghOf, slotNums, slotOf, slotShaped, threeFine, mlWidths, mlNums, mlShaped, mlFine, mlOf}
-use Rattle.heads.proofs.Puts.{length-nums}
-use Rattle.heads.proofs.Whole.{gh-total, ml-total}
-use Rattle.block.specs.Block.{entryNums, entryBytes, blockOf, headOf, entryAt, counted, allZero, entryFine, blockFine, entryOf, blockRecord}
-use Rattle.block.proofs.Turns.{block-long}
-use Rattle.block.proofs.Head.{all-at}
+use Rattle.heads.specs.Numbers.{flagNum, kindNum, kindOf, ghWidths, ghNums, flagsFine, cornersFine, ghShaped, ghFine, ghOf, slotNums, slotOf, slotShaped, threeFine, mlWidths, mlNums, mlShaped, mlFine, mlOf}
 
 -- ---- numbers of a list by their places
 places : (l : List ℕ) (n : ℕ) → length l ≡ n → row n (λ i. getD l i 0) ≡ l
@@ -75,7 +66,7 @@ unfolding joined
 twenty-again l x y z a b c d e p q r i j k m = rw (p, q, r, i, j, k, m) (places l 20 e)
 
 pub material-again : (l : List ℕ) → length l ≡ 20 → T (fitAll mlWidths l) → mlFine l ≡ true → mlNums (mlOf l) ≡ l
-unfolding mlNums mlOf mlFine mlShaped
+unfolding mlNums mlOf mlFine mlShaped joined allBelow
 material-again l e t f =
     let n : ℕ → ℕ = λ i. getD l i 0 in
     let s0 = slotShaped (ltb 0 (n 3)) (n 4) (n 5) (n 6) (n 7) in
@@ -87,22 +78,22 @@ material-again l e t f =
     let x2 = threeFine (n 9) (n 10) (n 11) in
     let x3 = threeFine (n 13) (n 14) (n 15) in
     let x4 = threeFine (n 17) (n 18) (n 19) in
-    let s = and-left (s0 && s1 && s2 && s3) (x0 && x1 && x2 && x3 && x4) f in
-    let x = and-right (s0 && s1 && s2 && s3) (x0 && x1 && x2 && x3 && x4) f in
+    let sx = and-left (s0 && s1 && s2 && s3 && x0) (x1 && x2 && x3 && x4) f in
+    let s = and-left (s0 && s1 && s2 && s3) x0 sx in
+    let front = and-right (s0 && s1 && s2 && s3) x0 sx in
+    let x = and-right (s0 && s1 && s2 && s3 && x0) (x1 && x2 && x3 && x4) f in
     let s012 = and-left (s0 && s1 && s2) s3 s in
     let s01 = and-left (s0 && s1) s2 s012 in
-    let x0123 = and-left (x0 && x1 && x2 && x3) x4 x in
-    let x012 = and-left (x0 && x1 && x2) x3 x0123 in
-    let x01 = and-left (x0 && x1) x2 x012 in
-    let front = and-left x0 x1 x01 in
+    let x123 = and-left (x1 && x2 && x3) x4 x in
+    let x12 = and-left (x1 && x2) x3 x123 in
     let both = and-left (fine (n 0) && fine (n 1)) (fine (n 2)) front in
     let w : (i : ℕ) → i < 20 → n i < 256 ^ getD mlWidths i 0 = λ i h. fit-at mlWidths l i t h in
     twenty-again l _ _ _ _ _ _ _ e (float-back (n 0) (w 0 (omega arith)) (and-left (fine (n 0)) (fine (n 1)) both)) (float-back (n 1) (w 1 (omega arith)) (and-right (fine (n 0)) (fine (n 1)) both))
     (float-back (n 2) (w 2 (omega arith)) (and-right (fine (n 0) && fine (n 1)) (fine (n 2)) front))
-    (slot-again (ltb 0 (n 3)) (n 4) (n 5) (n 6) (n 7) (w 5 (omega arith)) (w 6 (omega arith)) (w 7 (omega arith)) (and-left s0 s1 s01) (and-right x0 x1 x01))
-    (slot-again (ltb 1 (n 3)) (n 8) (n 9) (n 10) (n 11) (w 9 (omega arith)) (w 10 (omega arith)) (w 11 (omega arith)) (and-right s0 s1 s01) (and-right (x0 && x1) x2 x012))
-    (slot-again (ltb 2 (n 3)) (n 12) (n 13) (n 14) (n 15) (w 13 (omega arith)) (w 14 (omega arith)) (w 15 (omega arith)) (and-right (s0 && s1) s2 s012) (and-right (x0 && x1 && x2) x3 x0123))
-    (slot-again (ltb 3 (n 3)) (n 16) (n 17) (n 18) (n 19) (w 17 (omega arith)) (w 18 (omega arith)) (w 19 (omega arith)) (and-right (s0 && s1 && s2) s3 s) (and-right (x0 && x1 && x2 && x3) x4 x))
+    (slot-again (ltb 0 (n 3)) (n 4) (n 5) (n 6) (n 7) (w 5 (omega arith)) (w 6 (omega arith)) (w 7 (omega arith)) (and-left s0 s1 s01) (and-left x1 x2 x12))
+    (slot-again (ltb 1 (n 3)) (n 8) (n 9) (n 10) (n 11) (w 9 (omega arith)) (w 10 (omega arith)) (w 11 (omega arith)) (and-right s0 s1 s01) (and-right x1 x2 x12))
+    (slot-again (ltb 2 (n 3)) (n 12) (n 13) (n 14) (n 15) (w 13 (omega arith)) (w 14 (omega arith)) (w 15 (omega arith)) (and-right (s0 && s1) s2 s012) (and-right (x1 && x2) x3 x123))
+    (slot-again (ltb 3 (n 3)) (n 16) (n 17) (n 18) (n 19) (w 17 (omega arith)) (w 18 (omega arith)) (w 19 (omega arith)) (and-right (s0 && s1 && s2) s3 s) (and-right (x1 && x2 && x3) x4 x))
 
 -- ---- the record itself
 flag-again : (n : ℕ) → leb n 1 ≡ true → flagNum (eqb n 1) ≡ n
@@ -166,7 +157,7 @@ record Flags (l : List ℕ) : Type 0 where
   f13 : leb (getD l 13 0) 3 ≡ true
 
 flags-of : (l : List ℕ) → flagsFine l ≡ true → Flags l
-unfolding flagsFine
+unfolding flagsFine allBelow
 flags-of l t =
     let a = leb (getD l 3 0) 1 in
     let b = leb (getD l 4 0) 1 in
@@ -194,7 +185,7 @@ flags-of l t =
     }
 
 pub head-again : (l : List ℕ) (ms : List DispersiveMaterial) → length l ≡ 26 → T (fitAll ghWidths l) → ghFine l ≡ true → ghNums (ghOf l ms) ≡ l
-unfolding ghNums ghOf ghFine ghShaped cornersFine
+unfolding ghNums ghOf ghFine ghShaped cornersFine allBelow
 head-again l ms e t f =
     let n : ℕ → ℕ = λ i. getD l i 0 in
     let floats = fine (n 20) && fine (n 21) && fine (n 22) && fine (n 23) && fine (n 24) in

@@ -2,29 +2,26 @@
 use Prim.Native.Nat.{ℕ, zero, suc, _+_, _*_, _≤_, _<_}
 use native.Mathlib.Omega.{arith}
 use mathlib.Core.Path.{_≡_, refl, sym, ap, _∙_}
-use mathlib.Core.Bool.{Bool, true, cond, _&&_}
+use mathlib.Core.Bool.{Bool, cond}
 use mathlib.Core.List.{List, [], _∷_, _++_, append-assoc}
-use lib.Dec.{T, ltb, eqb}
-use lib.ListN.{length, getD, take, drop, take-append-drop, length-drop}
+use lib.Dec.{T, ltb}
+use lib.ListN.{length, take, drop, take-append-drop, length-drop}
 use lib.Seq.{length-take-le, take-append-le, drop-append-le, drop-drop}
-use lib.Ieee.{binary64, ofBits}
+use lib.Ieee.{binary64}
 use lib.Ieee.Bits.{ofBits-toBits}
 use Rattle.codec.specs.Lists.{put, part}
-use Rattle.codec.specs.Bytes.{unle, enc, nums, total}
-use Rattle.codec.proofs.Lists.{put-length, take-put, drop-put, drop-past}
+use Rattle.codec.specs.Bytes.{unle, nums, total, bits}
+use Rattle.codec.proofs.Lists.{put-length, drop-put, drop-past}
 use Rattle.codec.proofs.Row.{length-enc, fit-nil, fit-cons, nums-enc}
 use Rattle.dispersion.specs.declared.DispersiveMaterial.{DispersiveMaterial}
-use Rattle.dispersion.specs.Material.{vacuumMaterial}
-use Rattle.cells.specs.Cells.{row}
-use Rattle.cells.proofs.Blocks.{joined-same}
 use Rattle.grid.specs.declared.Clock.{Clock}
-use Rattle.grid.specs.declared.Record.{Record}
 use Rattle.grid.specs.Edited.{withClock}
 use Rattle.grid.specs.Fault.{allBelow}
-use Rattle.heads.specs.Numbers.{bits, planWidths, cornerWidths, ghWidths, flagsFine, cornersFine, ghShaped, ghOf, mlWidths, mlShaped, mlOf}
-use Rattle.block.specs.Block.{blockLength, clockWidths, clockBytes, clockPut, headOf, entryAt, counted, allZero, entryFine, blockFine, entryOf, blockRecord}
-use Rattle.block.specs.Held.{held}
-use Rattle.block.proofs.Turns.{block-long}
+use Rattle.heads.specs.Numbers.{ghLength, flagsFine, cornersFine, ghShaped, ghOf, mlLength, mlShaped}
+use Rattle.heads.specs.Payloads.{headOf, countOf, entryAt, materialsOf}
+use Rattle.heads.specs.Inner.Parts.{planWidths, cornerWidths}
+use Rattle.block.specs.Block.{blockLength, clockWidths, clockPlace, clockBytes, clockPut, entries, allZero, entryFine, blockFine, blockRecord}
+use Rattle.block.specs.Inner.Held.{held}
 use Rattle.block.proofs.Entry.{bits-small}
 
 -- ---- numbers of a row in two parts, and of bytes that begin alike
@@ -61,62 +58,55 @@ module _ (b : List ℕ) (c : Clock) (long : length b ≡ blockLength) where
 
   after-long : length after ≡ blockLength
   unfolding clockPut
-  after-long = put-length b 61 (clockBytes c) (omega (arith, bytes-long, long)) ∙ long
+  after-long = put-length b clockPlace (clockBytes c) (omega (arith, bytes-long, long)) ∙ long
 
   -- past the head nothing changes
-  rest-same : (k : ℕ) → drop (73 + k) after ≡ drop (73 + k) b
+  entries-same : entries after ≡ entries b
   unfolding clockPut
-  rest-same k =
-      let e : 61 + length (clockBytes c) ≡ 73 = omega (arith, bytes-long) in
-      let past : drop 73 after ≡ drop 73 b = ap (λ (n : ℕ). drop n after) (sym e) ∙ drop-past b 61 (clockBytes c) (omega (arith, long)) ∙ ap (λ (n : ℕ). drop n b) e in
-      sym (drop-drop k 73 after) ∙ ap (drop k) past ∙ drop-drop k 73 b
+  entries-same =
+      let e : clockPlace + length (clockBytes c) ≡ ghLength = omega (arith, bytes-long) in
+      ap (λ (n : ℕ). drop n after) (sym e) ∙ drop-past b clockPlace (clockBytes c) (omega (arith, long)) ∙ ap (λ (n : ℕ). drop n b) e
 
   -- up to the clock neither
   first-same : nums firstWidths after ≡ nums firstWidths b
   unfolding clockPut put total
   first-same =
-      let room : 61 ≤ length (take 61 b) = omega (arith, length-take-le 61 b (omega (arith, long))) in
-      ap (nums firstWidths) (append-assoc (take 61 b) (clockBytes c) (drop (61 + length (clockBytes c)) b))
-      ∙ nums-front firstWidths (take 61 b) (clockBytes c ++ drop (61 + length (clockBytes c)) b) (drop 61 b) room
-      ∙ ap (nums firstWidths) (take-append-drop 61 b)
+      let room : clockPlace ≤ length (take clockPlace b) = omega (arith, length-take-le clockPlace b (omega (arith, long))) in
+      ap (nums firstWidths) (append-assoc (take clockPlace b) (clockBytes c) (drop (clockPlace + length (clockBytes c)) b))
+      ∙ nums-front firstWidths (take clockPlace b) (clockBytes c ++ drop (clockPlace + length (clockBytes c)) b) (drop clockPlace b) room
+      ∙ ap (nums firstWidths) (take-append-drop clockPlace b)
 
   module _ (t : T (held (c .time))) (s : c .steps < 4294967296) where
     abbrev two : List ℕ
     two = bits (c .time) ∷ c .steps ∷ []
 
-    last-is : nums clockWidths (drop 61 after) ≡ two
+    last-is : nums clockWidths (drop clockPlace after) ≡ two
     unfolding clockPut clockBytes
     last-is =
-        ap (nums clockWidths) (drop-put b 61 (clockBytes c) (omega (arith, long)))
-        ∙ nums-enc clockWidths two (drop (61 + length (clockBytes c)) b) (fit-cons 8 _ _ _ (bits-small (c .time) t) (fit-cons 4 _ _ _ s fit-nil))
+        ap (nums clockWidths) (drop-put b clockPlace (clockBytes c) (omega (arith, long)))
+        ∙ nums-enc clockWidths two (drop (clockPlace + length (clockBytes c)) b) (fit-cons 8 _ _ _ (bits-small (c .time) t) (fit-cons 4 _ _ _ s fit-nil))
 
     head-after : headOf after ≡ nums firstWidths b ++ two
     unfolding total
     head-after = nums-append firstWidths clockWidths after ∙ ap (λ (x : List ℕ). nums firstWidths after ++ x) last-is ∙ ap (λ (x : List ℕ). x ++ two) first-same
 
-    head-before : headOf b ≡ nums firstWidths b ++ nums clockWidths (drop 61 b)
+    head-before : headOf b ≡ nums firstWidths b ++ nums clockWidths (drop clockPlace b)
     unfolding total
     head-before = nums-append firstWidths clockWidths b
 
     shaped-same : ghShaped (headOf after) ≡ ghShaped (headOf b)
-    unfolding ghShaped flagsFine cornersFine nums
+    unfolding ghShaped flagsFine cornersFine nums allBelow
     shaped-same = ap ghShaped head-after ∙ sym (ap ghShaped head-before)
 
-    count-same : getD (headOf after) 12 0 ≡ getD (headOf b) 12 0
+    count-same : countOf (headOf after) ≡ countOf (headOf b)
     unfolding nums
-    count-same = ap (λ (l : List ℕ). getD l 12 0) head-after ∙ sym (ap (λ (l : List ℕ). getD l 12 0) head-before)
+    count-same = ap countOf head-after ∙ sym (ap countOf head-before)
 
     entry-same : (i : ℕ) → entryFine after i ≡ entryFine b i
-    unfolding entryFine part
+    unfolding entryFine
     entry-same i =
-        ap (λ (n : ℕ). cond (ltb i n) (mlShaped (entryAt after i)) (allZero (part after (73 + 125 * i) 125))) count-same
-        ∙ ap (λ (l : List ℕ). cond (counted b i) (mlShaped (nums mlWidths l)) (allZero (take 125 l))) (rest-same (125 * i))
-
-    of-same : (i : ℕ) → entryOf after i ≡ entryOf b i
-    unfolding entryOf
-    of-same i =
-        ap (λ (n : ℕ). cond (ltb i n) (mlOf (entryAt after i)) vacuumMaterial) count-same
-        ∙ ap (λ (l : List ℕ). cond (counted b i) (mlOf (nums mlWidths l)) vacuumMaterial) (rest-same (125 * i))
+        let judged : ℕ → List ℕ → Bool = λ n l. cond (ltb i n) (mlShaped (entryAt l i)) (allZero (part l (mlLength * i) mlLength)) in
+        ap (λ (n : ℕ). judged n (entries after)) count-same ∙ ap (judged (countOf (headOf b))) entries-same
 
     pub clock-fine : blockFine (clockPut c b) ≡ blockFine b
     unfolding blockFine
@@ -125,9 +115,10 @@ module _ (b : List ℕ) (c : Clock) (long : length b ≡ blockLength) where
     pub clock-record : blockRecord (clockPut c b) ≡ withClock (blockRecord b) c
     unfolding blockRecord ghOf nums
     clock-record =
-        let ms : List DispersiveMaterial = row 16 (entryOf b) in
-        let moved : ghOf (nums firstWidths b ++ two) ms ≡ withClock (ghOf (nums firstWidths b ++ nums clockWidths (drop 61 b)) ms) c = rw (ofBits-toBits binary64 (c .time) t) in
-        ap (λ (m : List DispersiveMaterial). ghOf (headOf after) m) (joined-same 16 (λ i. entryOf after i ∷ []) (λ i. entryOf b i ∷ []) (λ i _. ap (λ (m : DispersiveMaterial). m ∷ []) (of-same i)))
+        let ms : List DispersiveMaterial = materialsOf (countOf (headOf b)) (entries b) in
+        let moved : ghOf (nums firstWidths b ++ two) ms ≡ withClock (ghOf (nums firstWidths b ++ nums clockWidths (drop clockPlace b)) ms) c = rw (ofBits-toBits binary64 (c .time) t) in
+        ap (λ (n : ℕ). ghOf (headOf after) (materialsOf n (entries after))) count-same
+        ∙ ap (λ (l : List ℕ). ghOf (headOf after) (materialsOf (countOf (headOf b)) l)) entries-same
         ∙ ap (λ (l : List ℕ). ghOf l ms) head-after
         ∙ moved
         ∙ sym (ap (λ (l : List ℕ). withClock (ghOf l ms) c) head-before)

@@ -11,7 +11,7 @@ use lib.Seq.{ext-getD}
 use lib.Ieee.{Float, binary64, ofBits, nanBits}
 use lib.Ieee.Bits.{ofBits-toBits, toBits-lt}
 use lib.Ieee.Fits.{and-i, and-l, and-r}
-use Rattle.codec.specs.Bytes.{fine, fitAll}
+use Rattle.codec.specs.Bytes.{fine, fitAll, bits}
 use Rattle.codec.proofs.Patterns.{bits-fine}
 use Rattle.codec.proofs.Row.{fit-nil, fit-cons}
 use Rattle.dispersion.specs.declared.Pole.{Pole}
@@ -20,11 +20,12 @@ use Rattle.dispersion.specs.declared.PoleSlot.{PoleSlot}
 use Rattle.dispersion.specs.declared.DispersiveMaterial.{DispersiveMaterial}
 use Rattle.dispersion.specs.Material.{blankSlot}
 use Rattle.cells.specs.Cells.{joined, row}
-use Rattle.cells.proofs.Blocks.{length-row}
+use Rattle.cells.specs.Reading.{length-row}
 use Rattle.cells.proofs.Written.{getD-row}
 use Rattle.grid.specs.Canon.{keepFirst, canonMaterial}
-use Rattle.heads.specs.Numbers.{bits, mlWidths, slotNums, slotOf, slotShaped, threeFine, mlNums, mlShaped, mlFine, mlOf}
-use Rattle.block.specs.Held.{held, poleHeld, MaterialHeld}
+use Rattle.grid.specs.Fault.{allBelow}
+use Rattle.heads.specs.Numbers.{frontWidths, slotWidths, mlWidths, slotNums, slotOf, slotShaped, threeFine, mlNums, mlShaped, mlFine, mlOf}
+use Rattle.block.specs.Inner.Held.{held, poleHeld, MaterialHeld}
 
 -- ---- a list whose elements past the n-th are d
 length-keep : {A : Type 0} (n : ℕ) (d : A) (l : List A) → length (keepFirst n d l) ≡ length l
@@ -63,9 +64,6 @@ fit-append [] vs (n ∷ ns) ms t u = absurd t
 fit-append (w ∷ ws) vs [] ms t u = absurd t
 fit-append (w ∷ ws) vs (n ∷ ns) ms t u =
     and-i (ltb n (256 ^ w)) (fitAll (ws ++ vs) (ns ++ ms)) (and-l (ltb n (256 ^ w)) (fitAll ws ns) t) (fit-append ws vs ns ms (and-r (ltb n (256 ^ w)) (fitAll ws ns) t) u)
-
-abbrev slotWidths : List ℕ
-slotWidths = 1 ∷ 8 ∷ 8 ∷ 8 ∷ []
 
 four-fit : (t a b c : ℕ) → t < 256 → a < 256 ^ 8 → b < 256 ^ 8 → c < 256 ^ 8 → T (fitAll slotWidths (t ∷ a ∷ b ∷ c ∷ []))
 four-fit t a b c p q r s = fit-cons 1 t _ _ p (fit-cons 8 a _ _ q (fit-cons 8 b _ _ r (fit-cons 8 c _ _ s fit-nil)))
@@ -148,17 +146,17 @@ module _ (x y z n t a b c t' a' b' c' t'' a'' b'' c'' u v w o : ℕ) where
 
   twenty-shaped : slotShaped (ltb 0 n) t a b c ≡ true → slotShaped (ltb 1 n) t' a' b' c' ≡ true → slotShaped (ltb 2 n) t'' a'' b'' c'' ≡ true → slotShaped (ltb 3 n) u v w o ≡ true →
       mlShaped twenty ≡ true
-  unfolding mlShaped
+  unfolding mlShaped allBelow
   twenty-shaped i j k l = rw (i, j, k, l)
 
   twenty-fine : mlShaped twenty ≡ true → threeFine x y z ≡ true → threeFine a b c ≡ true → threeFine a' b' c' ≡ true → threeFine a'' b'' c'' ≡ true → threeFine v w o ≡ true → mlFine twenty ≡ true
-  unfolding mlFine
+  unfolding mlFine allBelow
   twenty-fine p q i j k l = rw (p, q, i, j, k, l)
 
   twenty-of : (d e f : Float) (p : List PoleSlot) → ofBits binary64 x ≡ d → ofBits binary64 y ≡ e → ofBits binary64 z ≡ f →
       (slotOf t a b c ∷ slotOf t' a' b' c' ∷ slotOf t'' a'' b'' c'' ∷ slotOf u v w o ∷ []) ≡ p →
       mlOf twenty ≡ record { «eps_inf» = d; sigma = e; «mu_r» = f; «pole_count» = n; poles = p }
-  unfolding mlOf
+  unfolding mlOf joined
   twenty-of d e f p i j k l = rw (i, j, k, l)
 
 five-parts : (h a b c d a' b' c' d' : List ℕ) → a ≡ a' → b ≡ b' → c ≡ c' → d ≡ d' → h ++ a ++ b ++ c ++ d ≡ h ++ a' ++ b' ++ c' ++ d'
@@ -187,10 +185,10 @@ module _ (m : DispersiveMaterial) (h : MaterialHeld m) where
   four-of p = p .tag ∷ p .a ∷ p .b ∷ p .c ∷ []
 
   numbers-are : mlNums m ≡ front ++ four-of p0 ++ four-of p1 ++ four-of p2 ++ four-of p3
-  unfolding mlNums
+  unfolding mlNums joined
   numbers-are = five-parts front _ _ _ _ _ _ _ _ (p0 .are) (p1 .are) (p2 .are) (p3 .are)
 
-  front-fit : m .«pole_count» < 256 → T (fitAll (8 ∷ 8 ∷ 8 ∷ 1 ∷ []) front)
+  front-fit : m .«pole_count» < 256 → T (fitAll frontWidths front)
   front-fit k =
       fit-cons 8 _ _ _ (bits-small (m .«eps_inf») (h .eps)) (fit-cons 8 _ _ _ (bits-small (m .sigma) (h .loss)) (fit-cons 8 _ _ _ (bits-small (m .«mu_r») (h .mu)) (fit-cons 1 _ _ _ k fit-nil)))
 

@@ -11,7 +11,7 @@ use lib.Dec.{T, leb, ltb, eqb}
 use lib.ListN.{length, getD}
 use lib.Ieee.{binary64}
 use lib.Ieee.Bits.{ofBits-toBits}
-use Rattle.codec.specs.Bytes.{fine, fitAll}
+use Rattle.codec.specs.Bytes.{fine, fitAll, bits}
 use Rattle.codec.proofs.Patterns.{bits-fine}
 use Rattle.codec.proofs.Row.{fit-nil, fit-cons}
 use Rattle.dispersion.specs.declared.DispersiveMaterial.{DispersiveMaterial}
@@ -22,11 +22,11 @@ use Rattle.grid.specs.declared.Region.{Region}
 use Rattle.grid.specs.declared.Record.{Record}
 use Rattle.grid.specs.Canon.{keepFirst, canonMaterial, regionBy, canonRegion, canon}
 use Rattle.grid.specs.Fault.{isAbsent, cornersFit, regionFits, countsFit, polesFit, layerFits, studyFits, spacingsFit, sizeFits, poleCount, allBelow, faultOf}
-use Rattle.grid.specs.Sound.{Sound}
+use Rattle.grid.specs.Inner.Sound.{Sound}
 use Rattle.grid.proofs.Judging.{sound}
 use Rattle.grid.proofs.Tests.{and-left, and-right, first-none}
-use Rattle.heads.specs.Numbers.{bits, flagNum, kindNum, kindOf, ghWidths, flagNums, floatNums, ghNums, flagsFine, cornersFine, ghShaped, ghFine, ghOf}
-use Rattle.block.specs.Held.{Held}
+use Rattle.heads.specs.Numbers.{flagNum, kindNum, kindOf, ghWidths, flagNums, floatNums, ghNums, flagsFine, cornersFine, ghShaped, ghFine, ghOf}
+use Rattle.block.specs.Inner.Held.{Held}
 use Rattle.block.proofs.Entry.{bits-small, fit-append}
 
 -- ---- what a record without fault meets besides
@@ -59,6 +59,11 @@ all-at f zero i e h = absurd (let z : ⊥ = omega arith in z)
 all-at f (suc n) i e h =
     ⊎-elim (λ q. subst (λ (k : ℕ). f k ≡ true) (sym q) (and-right (allBelow f n) (f n) e)) (λ b. all-at f n i (and-left (allBelow f n) (f n) e) b)
     (eq-or-lt-of-le (le-of-suc-le-suc h))
+
+pub all-true : (f : ℕ → Bool) (n : ℕ) → ((i : ℕ) → i < n → f i ≡ true) → allBelow f n ≡ true
+unfolding allBelow
+all-true f zero h = refl
+all-true f (suc n) h = rw (all-true f n (λ i l. h i (omega arith)), h n (omega arith))
 
 poles-of : (r : Record) (i : ℕ) → polesFit r ≡ true → i < r .«material_count» → poleCount r i ≤ r .«pole_slots»
 unfolding polesFit
@@ -188,7 +193,7 @@ module _ (r : Record) (ok : faultOf r ≡ 0) (h : Held r) where
       (fit-cons 4 _ _ _ (h .steps) fit-nil)
 
   flags-fine : flagsFine (ghNums r) ≡ true
-  unfolding flagsFine ghNums
+  unfolding flagsFine ghNums allBelow
   flags-fine = go (getD (r .periodic) 0 false) (getD (r .periodic) 1 false) (getD (r .periodic) 2 false) (getD (r .active) 0 false) (getD (r .active) 1 false) (getD (r .active) 2 false) (r .«layer_on») (canonRegion (r .region) .kind)
     where
       go : (a b c d e f g : Bool) (k : RegionKind) →
@@ -196,7 +201,7 @@ module _ (r : Record) (ok : faultOf r ≡ 0) (h : Held r) where
       go a b c d e f g k = rw (flag-low a, flag-low b, flag-low c, flag-low d, flag-low e, flag-low f, flag-low g, le-leb (kindNum k) 3 (kind-low k))
 
   places-fine : cornersFine (ghNums r) ≡ true
-  unfolding cornersFine ghNums canonRegion
+  unfolding cornersFine ghNums canonRegion allBelow
   places-fine = corners-fine (r .region .kind) (r .region) refl
 
   numbers-fine : (fine (bits (r .spacings .dx)) && fine (bits (r .spacings .dy)) && fine (bits (r .spacings .dz)) && fine (bits (r .spacings .dt)) && fine (bits (r .clock .time))) ≡ true
@@ -207,7 +212,7 @@ module _ (r : Record) (ok : faultOf r ≡ 0) (h : Held r) where
   head-shaped = rw (flags-fine, places-fine)
 
   pub head-fine : ghFine (ghNums r) ≡ true
-  unfolding ghFine ghNums
+  unfolding ghFine ghNums allBelow
   head-fine = go _ _ head-shaped numbers-fine
     where
       go : (a b : Bool) → a ≡ true → b ≡ true → (a && b) ≡ true

@@ -2,6 +2,7 @@
 pub mod Turns
 pub mod Entry
 pub mod Head
+pub mod Counted
 pub mod Back
 pub mod Decoded
 pub mod Again

@@ -1,3 +1,3 @@
 -- What the contracts and laws of block cite.
 pub mod Block
-pub mod Held
+pub mod Inner

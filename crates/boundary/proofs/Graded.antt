@@ -12,7 +12,7 @@ use borrow.Author.Tests.{lt-ltb, le-ltb}
 use Rattle.codec.specs.Lists.{put}
 use Rattle.codec.proofs.Lists.{put-length, put-before, put-inside}
 use Rattle.cells.specs.Cells.{row, cellwise}
-use Rattle.cells.proofs.Blocks.{length-row}
+use Rattle.cells.specs.Reading.{length-row}
 use Rattle.cells.proofs.Written.{getD-row}
 use Rattle.cells.proofs.Pointwise.{cellwise-same, cells-same}
 use Rattle.root.specs.Rounded.{_⊗_, _⊘_, zeroF}

@@ -8,11 +8,11 @@ use lib.ListN.{length}
 use lib.Ieee.{Float}
 use borrow.Author.Tests.{eqb-true}
 use Rattle.grid.specs.declared.Record.{Record}
-use Rattle.grid.specs.Sound.{Sound}
+use Rattle.grid.specs.Inner.Sound.{Sound}
 use Rattle.grid.specs.Stores.{storeLengths}
 use Rattle.grid.proofs.Tests.{and-left, and-right, or-none}
 use Rattle.grid.proofs.Settled.{lent-none}
-use Rattle.opening.specs.Layer.{Layer, layer, layerLong, layerFits, clearedLayer}
+use Rattle.opening.specs.Layer.{Layer, layer, layerLong, layerLent, clearedLayer}
 use Rattle.opening.proofs.Layered.{tables-long}
 use Rattle.boundary.specs.declared.LossyAbsorber.{LossyAbsorber}
 use Rattle.boundary.specs.Lossy.{lossyMedia}
@@ -20,7 +20,7 @@ use Rattle.boundary.specs.Walls.{Lossed, plainFault, lossyFault, lossed}
 
 pub plain-none : (r : Record) (s : Layer) → plainFault r s ≡ 0 → length (s .tables) ≡ 6 * (r .nx + r .ny + r .nz)
 unfolding plainFault
-plain-none r s e = tables-long r _ _ _ (lent-none r (layerFits s (storeLengths r)) e .1)
+plain-none r s e = tables-long r _ _ _ (lent-none r (layerLent s (storeLengths r)) e .1)
 
 pub record Lossable (r : Record) (tables media : ℕ) : Type 0 where
   pub sizes : Sound r

@@ -10,12 +10,12 @@ use Rattle.grid.specs.declared.Record.{Record}
 use Rattle.grid.specs.Fault.{first, faultOf}
 use Rattle.grid.specs.Stores.{storeLengths, orElse, faultLent, Outcome, settle}
 use Rattle.grid.specs.Edited.{withWalls}
-use Rattle.opening.specs.Layer.{Layer, layer, layerLong, layerFits, clearedLayer}
+use Rattle.opening.specs.Layer.{Layer, layer, layerLong, layerLent, clearedLayer}
 use Rattle.boundary.specs.declared.LossyAbsorber.{LossyAbsorber}
 use Rattle.boundary.specs.Lossy.{lossyMedia}
 
-abbrev pub three : Bool → List Bool
-three b = b ∷ b ∷ b ∷ []
+abbrev pub allAxes : Bool → List Bool
+allAxes b = b ∷ b ∷ b ∷ []
 
 -- ---- set_periodic: the flags of the three axes; no store is lent
 unfoldable pub setPeriodicCall : Record → List Bool → Outcome Unit
@@ -23,11 +23,11 @@ setPeriodicCall r axes = settle (faultOf r) r tt (withWalls r axes (r .active) (
 
 -- ---- set_boundary, periodic (true) or conducting (false) on all three axes: the layer goes off
 unfoldable pub plainFault : Record → Layer → ℕ
-plainFault r s = faultLent r (layerFits s (storeLengths r))
+plainFault r s = faultLent r (layerLent s (storeLengths r))
 
 unfoldable pub setPlainCall : Bool → Record → Layer → Outcome Layer
 setPlainCall periodic r s =
-    settle (plainFault r s) r s (withWalls r (three periodic) (three false) false) (clearedLayer (r .nx) (r .ny) (r .nz) s)
+    settle (plainFault r s) r s (withWalls r (allAxes periodic) (allAxes false) false) (clearedLayer (r .nx) (r .ny) (r .nz) s)
 
 -- ---- set_boundary, lossy: 10 BadOrder after the first four; the periodic flags stay
 abbrev pub badOrder : ℕ
@@ -52,5 +52,5 @@ unfoldable pub setLossyCall : Record → LossyAbsorber → Lossed → Outcome Lo
 setLossyCall r a s =
     let w = s .walls in
     settle (lossyFault r (a .order) (length (w .psiE)) (length (w .psiH)) (length (w .tables)) (length (s .media))) r s
-    (withWalls r (r .periodic) (three false) false)
+    (withWalls r (r .periodic) (allAxes false) false)
     (record { walls = clearedLayer (r .nx) (r .ny) (r .nz) w; media = lossyMedia r a (s .media) })

@@ -5,7 +5,7 @@ ghost use lib.ListN.{length, getD};
 ghost use lib.Ieee.{nan};
 ghost use Rattle.codec.specs.Lists.{put};
 ghost use Rattle.cells.specs.Cells.{joined, row, cellwise};
-ghost use Rattle.grid.specs.Sound.{Sound};
+ghost use Rattle.grid.specs.Inner.Sound.{Sound};
 ghost use Rattle.boundary.specs.Lossy.{power, ofCount, wallSigma, stronger, strongest, clamped, gradedSigma, lossyMedia};
 use crate::LossyAbsorber;
 use grid::Record;

@@ -4,7 +4,7 @@ ghost use mathlib.Core.Bool.{true, false};
 ghost use Rattle.grid.specs.Stores.{outcome};
 ghost use Rattle.grid.specs.Edited.{withWalls};
 ghost use Rattle.opening.specs.Layer.{layer};
-ghost use Rattle.boundary.specs.Walls.{three, setPeriodicCall, setPlainCall, lossed, lossyFault, setLossyCall};
+ghost use Rattle.boundary.specs.Walls.{allAxes, setPeriodicCall, setPlainCall, lossed, lossyFault, setLossyCall};
 use crate::LossyAbsorber;
 use crate::lossy;
 use grid::Answer;
@@ -37,7 +37,7 @@ pub fn set_periodic(r: Record, axes: [bool; 3]) -> Answer
 
 // The record with the layer off and these axes periodic.
 fn layer_off(r: Record, periodic: [bool; 3]) -> Record
-    ensures { λ q. ⌜ q ≡ withWalls r periodic (three false) false ⌝ }
+    ensures { λ q. ⌜ q ≡ withWalls r periodic (allAxes false) false ⌝ }
 {
     let off = [false, false, false];
     let mut q = r;
@@ -61,7 +61,7 @@ fn set_plain(
     let l = j.lengths;
     let f = stores::lent_fault(
         j.refusal,
-        opening::layer::layer_fits(psi_e.len(), psi_h.len(), tables.len(), l),
+        opening::layer::layer_long(psi_e.len(), psi_h.len(), tables.len(), l),
     );
     if f != 0 {
         return Answer {
@@ -111,7 +111,7 @@ fn lossy_fault(
 {
     let j = stores::judge(r);
     let l = j.lengths;
-    let lent = opening::layer::layer_fits(psi_e, psi_h, tables, l) & (media == l.media);
+    let lent = opening::layer::layer_long(psi_e, psi_h, tables, l) & (media == l.media);
     let f = stores::lent_fault(j.refusal, lent);
     stores::or_else(f, fault::first_fault(order <= MAX_ORDER, BAD_ORDER, 0))
 }

@@ -7,12 +7,12 @@ use mathlib.Core.List.{List, [], _∷_}
 use lib.Dec.{eqb}
 use lib.ListN.{length}
 use borrow.Author.Tests.{eqb-true, eq-eqb, ne-eqb}
-use Rattle.codec.specs.Bytes.{nums}
 use Rattle.grid.specs.declared.Clock.{Clock}
 use Rattle.grid.specs.declared.Record.{Record}
 use Rattle.grid.specs.Fault.{first}
 use Rattle.grid.proofs.Tests.{first-none}
-use Rattle.heads.specs.Numbers.{mlWidths, mlShaped}
+use Rattle.heads.specs.Numbers.{mlLength, mlShaped}
+use Rattle.heads.specs.Payloads.{entryOf}
 use Rattle.block.specs.Block.{blockOf, clockPut}
 use Rattle.calls.specs.Blocks.{blockAfter, clockAfter, answered, materialFault}
 
@@ -39,14 +39,14 @@ no-room [] v h = refl
 no-room (x ∷ l) v h = absurd (omega arith)
 
 -- ---- a material's bytes
-pub material-long : (m : List ℕ) → materialFault m ≡ 0 → length m ≡ 125
+pub material-long : (m : List ℕ) → materialFault m ≡ 0 → length m ≡ mlLength
 unfolding materialFault
-material-long m e = eqb-true (length m) 125 (first-none (eqb (length m) 125) 3 _ e .0)
+material-long m e = eqb-true (length m) mlLength (first-none (eqb (length m) mlLength) 3 _ e .0)
 
-pub other-length : (m : List ℕ) → (length m ≡ 125 → ⊥) → 4 ≡ materialFault m
+pub other-length : (m : List ℕ) → (length m ≡ mlLength → ⊥) → 4 ≡ materialFault m
 unfolding materialFault
-other-length m h = rw (ne-eqb (length m) 125 h)
+other-length m h = rw (ne-eqb (length m) mlLength h)
 
-pub right-length : (m : List ℕ) {t : Bool} {n : ℕ} → length m ≡ 125 → t ≡ mlShaped (nums mlWidths m) → n ≡ first t 3 0 → n ≡ materialFault m
+pub right-length : (m : List ℕ) {t : Bool} {n : ℕ} → length m ≡ mlLength → t ≡ mlShaped (entryOf m) → n ≡ first t 3 0 → n ≡ materialFault m
 unfolding materialFault
-right-length m h e q = rw (eq-eqb (length m) 125 h) (q ∙ ap (λ (t : Bool). first t 3 0) e)
+right-length m h e q = rw (eq-eqb (length m) mlLength h) (q ∙ ap (λ (t : Bool). first t 3 0) e)

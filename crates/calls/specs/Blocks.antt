@@ -4,7 +4,6 @@ use mathlib.Core.Bool.{Bool, false, cond}
 use mathlib.Core.List.{List}
 use lib.Dec.{eqb}
 use lib.ListN.{length, getD, set}
-use Rattle.codec.specs.Bytes.{nums}
 use Rattle.root.specs.declared.Spacings.{Spacings}
 use Rattle.dispersion.specs.declared.DispersiveMaterial.{DispersiveMaterial}
 use Rattle.grid.specs.declared.Clock.{Clock}
@@ -15,7 +14,8 @@ use Rattle.opening.specs.Opening.{openRecord, openStores}
 use Rattle.opening.specs.Layer.{Layer}
 use Rattle.cpml.specs.Absorber.{Absorbed}
 use Rattle.materials.specs.Materials.{addFault, added}
-use Rattle.heads.specs.Numbers.{mlWidths, mlShaped, mlOf}
+use Rattle.heads.specs.Numbers.{mlLength, mlShaped, mlOf}
+use Rattle.heads.specs.Payloads.{entryOf}
 use Rattle.block.specs.Block.{blockLength, blockFine, blockRecord, blockOf, clockPut}
 use Rattle.format.specs.Rewind.{readRecord, readStores, rewindFault}
 
@@ -43,22 +43,22 @@ onBlock f b kept = cond (blockFine b) (passed (f (blockRecord b)) b) (sent badSt
 unfoldable pub clockAfter : (refusal : ℕ) → Clock → List ℕ → List ℕ
 clockAfter n c b = cond (eqb n 0) (clockPut c b) b
 
-abbrev pub moved : {A : Type 0} → Outcome A → List ℕ → Sent A
-moved o b = sent (o .refusal) (clockAfter (o .refusal) (o .study .clock) b) (o .rest)
+abbrev pub clockPassed : {A : Type 0} → Outcome A → List ℕ → Sent A
+clockPassed o b = sent (o .refusal) (clockAfter (o .refusal) (o .study .clock) b) (o .rest)
 
 unfoldable pub clockOnBlock : {A : Type 0} → (Record → Outcome A) → List ℕ → (kept : A) → Sent A
-clockOnBlock f b kept = cond (blockFine b) (moved (f (blockRecord b)) b) (sent badStudy b kept)
+clockOnBlock f b kept = cond (blockFine b) (clockPassed (f (blockRecord b)) b) (sent badStudy b kept)
 
 -- a call that is lent the block to read alone: the refusal, and the rest
-pub record Told (A : Type 0) : Type 0 where
+pub record Readout (A : Type 0) : Type 0 where
   pub refusal : ℕ
   pub rest : A
 
-abbrev pub told : {A : Type 0} → ℕ → A → Told A
-told n s = record { refusal = n; rest = s }
+abbrev pub readout : {A : Type 0} → ℕ → A → Readout A
+readout n s = record { refusal = n; rest = s }
 
-unfoldable pub readBlock : {A : Type 0} → (Record → Outcome A) → List ℕ → (kept : A) → Told A
-readBlock f b kept = cond (blockFine b) (told (f (blockRecord b) .refusal) (f (blockRecord b) .rest)) (told badStudy kept)
+unfoldable pub readBlock : {A : Type 0} → (Record → Outcome A) → List ℕ → (kept : A) → Readout A
+readBlock f b kept = cond (blockFine b) (readout (f (blockRecord b) .refusal) (f (blockRecord b) .rest)) (readout badStudy kept)
 
 -- ---- opening and rewind judge no block: what the call itself finds, then 4 for a block of another length
 unfoldable pub lentBlock : (fault block : ℕ) → ℕ
@@ -80,12 +80,12 @@ answered v room = set room 0 v
 abbrev pub answering : {A : Type 0} → Outcome A → List A → Outcome (List A)
 answering o room = outcome (o .refusal) (o .study) (answered (o .rest) room)
 
--- ---- a material as 125 bytes, any NaN in them read as the NaN: 4 for another length, 3 for bytes that are no material
+-- ---- a material as its bytes in ML, any NaN in them read as the NaN: 4 for another length, 3 for bytes that are no material
 unfoldable pub materialFault : List ℕ → ℕ
-materialFault m = first (eqb (length m) 125) badStore (first (mlShaped (nums mlWidths m)) badStudy 0)
+materialFault m = first (eqb (length m) mlLength) badStore (first (mlShaped (entryOf m)) badStudy 0)
 
 unfoldable pub materialOf : List ℕ → DispersiveMaterial
-materialOf m = mlOf (nums mlWidths m)
+materialOf m = mlOf (entryOf m)
 
 -- the record's own faults, then the bytes', then what adding finds
 unfoldable pub addBytesFault : (material : List ℕ) → Record → ℕ

@@ -3,6 +3,7 @@ ghost use mathlib.Core.Bool.{cond};
 ghost use mathlib.Core.Path.{_≡_};
 ghost use Prim.Native.Nat.{_≤_};
 ghost use lib.ListN.{length};
+ghost use Rattle.block.specs.Block.{blockLength};
 ghost use Rattle.calls.specs.Blocks.{blockAfter, clockAfter, answered, axisBits, materialFault, materialOf};
 use dispersion::DispersiveMaterial;
 use grid::Clock;
@@ -10,11 +11,12 @@ use grid::Record;
 use grid::fault;
 use grid::fault::BAD_STUDY;
 use grid::stores::BAD_STORE;
+use heads::ML_LENGTH;
 use heads::payloads;
 
 // The record that a call answered goes into the block where the call was accepted.
 pub fn keep(b: &mut [u8], refusal: u32, study: Record)
-    requires { ⌜ length (now b) ≡ 2073 ⌝ }
+    requires { ⌜ length (now b) ≡ blockLength ⌝ }
     ensures { λ _. ⌜ now (b .exit) ≡ blockAfter refusal study (now (b .entry)) ⌝ }
 {
     if refusal == 0 {
@@ -24,7 +26,7 @@ pub fn keep(b: &mut [u8], refusal: u32, study: Record)
 
 // The clock alone, where the call moved nothing else of the record.
 pub fn keep_clock(b: &mut [u8], refusal: u32, clock: Clock)
-    requires { ⌜ length (now b) ≡ 2073 ⌝ }
+    requires { ⌜ length (now b) ≡ blockLength ⌝ }
     ensures { λ _. ⌜ now (b .exit) ≡ clockAfter refusal clock (now (b .entry)) ⌝ }
 {
     if refusal == 0 {
@@ -71,7 +73,7 @@ pub fn axis_bits(axes: [bool; 3]) -> u32
 pub fn material_fault(m: &[u8]) -> u32
     ensures { λ n. ⌜ n ≡ materialFault (now (m .entry)) ⌝ }
 {
-    if m.len() != 125 {
+    if m.len() != ML_LENGTH {
         return BAD_STORE;
     }
     let n = payloads::get_ml(m, 0);

@@ -10,26 +10,14 @@ use lib.Seq.{drop-at, take-all, take-add, take-append-le, drop-append-le, take-a
 use Rattle.codec.specs.Lists.{put, part}
 use Rattle.codec.proofs.Lists.{put-whole, put-length, drop-put}
 use Rattle.cells.specs.Cells.{joined, row, cellwise}
-use Rattle.cells.specs.Blocks.{on}
+use Rattle.cells.specs.Reading.{block-end, length-cellwise, length-joined, length-row}
+use Rattle.cells.specs.Inner.Blocks.{on}
 
 -- equal blocks make equal lists
 pub joined-same : {A : Type 0} (n : ℕ) (g h : ℕ → List A) → ((c : ℕ) → c < n → g c ≡ h c) → joined n g ≡ joined n h
 unfolding joined
 joined-same zero g h e = refl
 joined-same (suc n) g h e = rw (joined-same n g h (λ c l. e c (omega arith)), e n (omega arith))
-
-pub length-joined : {A : Type 0} (n m : ℕ) (g : ℕ → List A) → ((c : ℕ) → c < n → length (g c) ≡ m) → length (joined n g) ≡ n * m
-unfolding joined
-length-joined zero m g e = sym (zero-mul m)
-length-joined (suc n) m g e =
-    length-append (joined n g) (g n) ∙ omega (arith, length-joined n m g (λ c l. e c (omega arith)), e n (omega arith), suc-mul n m)
-
-pub length-row : {A : Type 0} (n : ℕ) (f : ℕ → A) → length (row n f) ≡ n
-length-row n f = length-joined n 1 (λ i. f i ∷ []) (λ c l. refl) ∙ mul-one n
-
-pub length-cellwise : {A : Type 0} (nx ny nz : ℕ) (f : ℕ → ℕ → ℕ → A) → length (cellwise nx ny nz f) ≡ nz * (ny * nx)
-unfolding cellwise
-length-cellwise nx ny nz f = length-joined nz (ny * nx) _ (λ k l. length-joined ny nx _ (λ j h. length-row nx _))
 
 -- ---- parts of a list that was appended
 pub part-left : {A : Type 0} (p q : List A) (at m : ℕ) → at + m ≤ length p → part (p ++ q) at m ≡ part p at m
@@ -99,9 +87,6 @@ on-right {A} p q at m F e f g =
     ap (λ (t : List A). put (p ++ q) at (F t)) (part-right p q at m e f) ∙ put-right p q at (F q) e (f ∙ sym g)
 
 -- the block c ends where the next begins, within n blocks
-pub block-end : (c n m : ℕ) → c < n → c * m + m ≤ n * m
-block-end c n m l = let h : (c + 1) * m ≤ n * m = mul-le-mul-right m (omega arith) in omega (arith, add-mul c 1 m, one-mul m)
-
 pub part-block : {A : Type 0} (n c m : ℕ) (g : ℕ → List A) → c < n → ((b : ℕ) → b < n → length (g b) ≡ m) → part (joined n g) (c * m) m ≡ g c
 unfolding joined
 part-block zero c m g l e = absurd (not-suc-le-zero l)

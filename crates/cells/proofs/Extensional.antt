@@ -7,7 +7,8 @@ use lib.ListN.{length, getD}
 use Rattle.codec.specs.Lists.{part}
 use Rattle.codec.proofs.Lists.{part-length}
 use Rattle.cells.specs.Cells.{joined, row, cellwise, cellIndex, components}
-use Rattle.cells.proofs.Blocks.{joined-same, block-end}
+use Rattle.cells.specs.Reading.{block-end}
+use Rattle.cells.proofs.Blocks.{joined-same}
 use Rattle.cells.proofs.Sweeps.{parts-whole}
 use Rattle.cells.proofs.Pointwise.{part-row, getD-part, cellwise-same, cell-in, inner, nested-place}
 

@@ -10,10 +10,11 @@ use lib.Seq.{take-suc, getD-take, getD-drop}
 use Rattle.codec.specs.Lists.{part}
 use Rattle.codec.proofs.Lists.{part-length, part-one}
 use Rattle.cells.specs.Cells.{joined, row, cellwise, cellIndex}
-use Rattle.cells.specs.Blocks.{within, inBlocks, setRow, setPlane, setBox}
+use Rattle.cells.specs.Reading.{block-end}
+use Rattle.cells.specs.Inner.Blocks.{inBlocks, setRow, setPlane, setBox}
 use Rattle.cells.specs.declared.IndexBox.{IndexBox}
-use Rattle.cells.specs.Box.{inBox}
-use Rattle.cells.proofs.Blocks.{joined-same, block-end}
+use Rattle.cells.specs.Box.{inBox, within}
+use Rattle.cells.proofs.Blocks.{joined-same}
 use Rattle.cells.proofs.Sweeps.{Keeps, blocks-length, parts-whole}
 
 -- ---- a part of a list, element by element

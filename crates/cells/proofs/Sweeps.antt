@@ -13,8 +13,10 @@ use borrow.Author.Tests.{lt-ltb, le-ltb, le-leb, lt-leb, ltb-true, ltb-false, le
 use Rattle.codec.specs.Lists.{put, part}
 use Rattle.codec.proofs.Lists.{put-length, part-length, put-one}
 use Rattle.cells.specs.Cells.{joined}
-use Rattle.cells.specs.Blocks.{on, within, inBlocks, Ends, setRow}
-use Rattle.cells.proofs.Blocks.{joined-same, length-joined, block-end, on-block, on-within}
+use Rattle.cells.specs.Reading.{length-joined, block-end}
+use Rattle.cells.specs.Inner.Blocks.{on, inBlocks, Ends, setRow}
+use Rattle.cells.specs.Box.{within}
+use Rattle.cells.proofs.Blocks.{joined-same, on-block, on-within}
 
 -- F keeps the length of a block
 abbrev pub Keeps : {A : Type 0} → ℕ → (ℕ → List A → List A) → Type 0

@@ -11,7 +11,7 @@ use lib.Seq.{getD-append-seam}
 use Rattle.codec.specs.Lists.{put}
 use Rattle.codec.proofs.Lists.{put-nil, put-one, put-next, put-length}
 use Rattle.cells.specs.Cells.{joined, row}
-use Rattle.cells.proofs.Blocks.{length-joined, length-row}
+use Rattle.cells.specs.Reading.{length-joined, length-row}
 
 module _ {A : Type 0} where
   joined-next : (c : ℕ) (g : ℕ → List A) → joined c g ++ g c ≡ joined (c + 1) g

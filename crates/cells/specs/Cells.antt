@@ -1,5 +1,5 @@
 -- Lists in store order: a number for each cell (document 01: "Cell (i, j, k) sits at i + j·nx + k·nx·ny"), and several such lists one after another.
--- Definitions only.
+-- Definitions only; that each place holds what it says is proved in Reading.antt.
 use Prim.Native.Nat.{ℕ, zero, suc, _+_, _*_}
 use mathlib.Core.List.{List, [], _∷_, _++_}
 
@@ -20,6 +20,6 @@ cellwise nx ny nz f = joined nz (λ k. joined ny (λ j. row nx (λ i. f i j k)))
 abbrev pub cellIndex : (nx ny i j k : ℕ) → ℕ
 cellIndex nx ny i j k = i + j * nx + k * (nx * ny)
 
--- n numbers a cell: number c of cell (i, j, k) stands at c N + cellIndex
+-- n numbers a cell: of N = nx·ny·nz cells, number c of cell (i, j, k) stands at c N + cellIndex (`components-at`, Reading.antt)
 unfoldable pub components : {A : Type 0} → (n nx ny nz : ℕ) → (ℕ → ℕ → ℕ → ℕ → A) → List A
 components n nx ny nz f = joined n (λ c. cellwise nx ny nz (f c))

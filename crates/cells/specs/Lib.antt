@@ -1,4 +1,5 @@
 -- What the contracts of cells cite.
 pub mod Cells
-pub mod Blocks
+pub mod Reading
 pub mod Box
+pub mod Inner

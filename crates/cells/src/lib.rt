@@ -2,7 +2,7 @@
 ghost use mathlib.Core.Path.{_≡_};
 ghost use Prim.Native.Nat.{_+_, _*_, _≤_};
 ghost use lib.ListN.{length};
-ghost use Rattle.cells.specs.Blocks.{Ends, on, setRow, setPlane, setBox};
+ghost use Rattle.cells.specs.Inner.Blocks.{Ends, on, setRow, setPlane, setBox};
 // Cells by half-open ranges of indices: i0 up to i1, and so on.
 pub struct IndexBox {
     pub i0: usize,

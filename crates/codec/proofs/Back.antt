@@ -1,40 +1,15 @@
 -- Floats and ids, there and back: what was written is read back, and what was read is written back.
-use mathlib.Core.Path.{_≡_, refl, sym, ap, _∙_, subst}
+use mathlib.Core.Path.{_≡_, refl}
 use mathlib.Core.List.{List, _++_}
-use mathlib.Core.Bool.{Bool, true, false}
+use mathlib.Core.Bool.{true}
 use Prim.Native.Nat.{ℕ, _*_, _^_, _≤_, _<_}
-use native.Mathlib.Omega.{arith}
 use lib.Dec.{T, ltb→lt, lt→ltb}
 use lib.ListN.{length, take}
 use lib.Ieee.{Float, binary64, toBits, ofBits, fits}
 use lib.Ieee.Bits.{ofBits-toBits, ofBits-fits, toBits-lt}
-use Rattle.codec.specs.Bytes.{le, unle, bytesFit, fine, readF, floatBytes, floatsBytes, floatsOf, allFine, floatsFit, idsBytes, idsOf, idsFit}
-use Rattle.codec.proofs.Bytes.{unle-le, le-unle, unle-lt}
-use Rattle.codec.proofs.Patterns.{read-number, read-other, bits-fine, bits-back}
+use Rattle.codec.specs.Bytes.{bytesFit, fine, floatsBytes, floatsOf, allFine, floatsFit, idsBytes, idsOf, idsFit}
+use Rattle.codec.proofs.Patterns.{bits-fine, bits-back}
 use Rattle.codec.proofs.Elements.{elements-back, pass-back, bytes-back, elements-fit, allPass-any}
-use Rattle.codec.specs.declared.floats.ReadF.the-variants.{Number, OtherNan}
-
--- ---- one float
-pub float-back : (x : Float) → T (fits binary64 x) → readF (unle (floatBytes x)) ≡ Number x
-float-back x t =
-    ap readF (unle-le 8 (toBits binary64 x) (toBits-lt binary64 x t))
-    ∙ read-number (toBits binary64 x) (bits-fine x t)
-    ∙ ap Number (ofBits-toBits binary64 x t)
-
-pub float-bytes : (l : List ℕ) (x : Float) → length l ≡ 8 → T (bytesFit l) → readF (unle l) ≡ Number x → floatBytes x ≡ l
-float-bytes l x e b r = go (fine (unle l)) refl
-  where
-    go : (t : Bool) → fine (unle l) ≡ t → floatBytes x ≡ l
-    go true f =
-        let n : Number (ofBits binary64 (unle l)) ≡ Number x = sym (read-number (unle l) f) ∙ r in
-        let q : x ≡ ofBits binary64 (unle l) = cc in
-        ap floatBytes q
-        ∙ ap (le 8) (bits-back (unle l) (subst (λ (n : ℕ). unle l < 256 ^ n) e (unle-lt l b)) f)
-        ∙ le-unle 8 l e b
-    go false f =
-        let n : OtherNan ≡ Number x = sym (read-other (unle l) f) ∙ r in
-        let z : _≡_ {A = ℕ} 0 1 = cc in
-        absurd (omega arith)
 
 -- ---- a store of floats
 pub floats-back : (xs : List Float) (r : List ℕ) → T (floatsFit xs) → floatsOf (length xs) (floatsBytes xs ++ r) ≡ xs

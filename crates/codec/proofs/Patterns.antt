@@ -1,14 +1,13 @@
 -- The patterns of floats: which are a NaN's, which are written, and the way there and back.
 use mathlib.Core.Path.{_≡_, refl, sym, ap, _∙_, subst}
-use mathlib.Core.Bool.{Bool, true, false, not, _||_, cond, true≢false}
+use mathlib.Core.Bool.{Bool, true, false, not, _||_, true≢false}
 use Prim.Native.Nat.{ℕ, _%_, _^_, _≤_, _<_}
 use borrow.Author.Tests.{lt-ltb, le-ltb, eqb-true}
 use lib.Dec.{T, eqb}
 use lib.Ieee.{Float, nan, inf, fin, binary64, toBits, ofBits, nanBits, isNan, ne, eq, div, fits}
 use lib.Ieee.Compare.{differs-from-itself}
 use lib.Ieee.Bits.{nanBits-is, nanBits-above, ofBits-toBits, toBits-ofBits}
-use Rattle.codec.specs.Bytes.{fine, readF}
-use Rattle.codec.specs.declared.floats.ReadF.the-variants.{Number, OtherNan}
+use Rattle.codec.specs.Bytes.{fine}
 
 -- ---- what the code tests
 pub nan-bits : (x : Float) → ne x x ≡ true → 0x7FF8000000000000 ≡ toBits binary64 x
@@ -44,15 +43,6 @@ is-nan (fin s m e) h = absurd (true≢false (sym h))
 pub high-nan : (b : ℕ) → 0x7FF0000000000000 < b % 0x8000000000000000 → div binary64 (ofBits binary64 0) (ofBits binary64 0) ≡ ofBits binary64 b
 unfolding div ofBits
 high-nan b h = is-nan (ofBits binary64 b) (sym (nanBits-is binary64 b) ∙ high-bits b h)
-
--- ---- what a pattern is read as
-pub read-number : (b : ℕ) → fine b ≡ true → readF b ≡ Number (ofBits binary64 b)
-unfolding readF
-read-number b h = ap (λ (t : Bool). cond t (Number (ofBits binary64 b)) OtherNan) h
-
-pub read-other : (b : ℕ) → fine b ≡ false → readF b ≡ OtherNan
-unfolding readF
-read-other b h = ap (λ (t : Bool). cond t (Number (ofBits binary64 b)) OtherNan) h
 
 -- document 01's rule in numbers: the one NaN is written so and accepted so; the pattern after it and its negative are refused
 pub one-nan : (toBits binary64 nan ≡ 0x7FF8000000000000) × (fine 0x7FF8000000000000 ≡ true) × (fine 0x7FF8000000000001 ≡ false) × (fine 0xFFF8000000000000 ≡ false)

@@ -6,8 +6,6 @@ use lib.Dec.{eqb, ltb}
 use lib.ListN.{take, drop}
 use lib.Ieee.{Float, binary64, toBits, ofBits, nanBits, fits}
 use Rattle.codec.specs.Lists.{every}
-use Rattle.codec.specs.declared.floats.ReadF.{ReadF}
-use Rattle.codec.specs.declared.floats.ReadF.the-variants.{Number, OtherNan}
 
 -- ---- numbers
 
@@ -28,16 +26,15 @@ bytesFit = every (λ b. ltb b 256)
 -- ---- one float
 
 -- Document 01, "Every NaN is written 7FF8000000000000": a float has one NaN here, and `toBits` gives that pattern for it and every other float its own.
+abbrev pub bits : Float → ℕ
+bits x = toBits binary64 x
+
 abbrev pub floatBytes : Float → List ℕ
-floatBytes x = le 8 (toBits binary64 x)
+floatBytes x = le 8 (bits x)
 
 -- Whether a pattern is one that is written: no NaN's, or 7FF8000000000000. Document 01 turns "another NaN" down.
 unfoldable pub fine : ℕ → Bool
 fine b = not (nanBits binary64 b) || eqb b 0x7FF8000000000000
-
--- what a pattern is read as: its float, or the finding that it is another NaN
-unfoldable pub readF : ℕ → ReadF
-readF b = cond (fine b) (Number (ofBits binary64 b)) OtherNan
 
 -- ---- a store: elements of one width, one after another
 
@@ -58,7 +55,7 @@ allPass w p (suc n) l = p (unle (take w l)) && allPass w p n (drop w l)
 
 -- a store of floats: its bytes; its first n floats; whether each of them is a pattern that is written
 abbrev pub floatsBytes : List Float → List ℕ
-floatsBytes = bytesOf 8 (toBits binary64)
+floatsBytes = bytesOf 8 bits
 
 abbrev pub floatsOf : ℕ → List ℕ → List Float
 floatsOf = elementsOf 8 (ofBits binary64)

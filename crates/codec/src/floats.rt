@@ -4,16 +4,9 @@ ghost use mathlib.Core.Path.{_≡_};
 ghost use Prim.Native.Nat.{_+_, _≤_};
 ghost use lib.ListN.{length};
 ghost use lib.Ieee.{binary64, toBits, ofBits};
-ghost use Rattle.codec.specs.Lists.{put, part};
-ghost use Rattle.codec.specs.Bytes.{unle, fine, floatBytes, readF};
-use super::numbers::get_u64;
+ghost use Rattle.codec.specs.Lists.{put};
+ghost use Rattle.codec.specs.Bytes.{fine, floatBytes};
 use super::numbers::put_u64;
-
-// What eight bytes say.
-pub enum ReadF {
-    Number(f64),
-    OtherNan,
-}
 
 // The pattern that is written for x: its own, or the one NaN's.
 pub fn bits_of(x: f64) -> u64
@@ -52,16 +45,4 @@ pub fn put_f64(out: &mut [u8], at: usize, x: f64)
     ensures { λ _. ⌜ now (out .exit) ≡ put (now (out .entry)) at (floatBytes x) ⌝ }
 {
     put_u64(out, at, bits_of(x));
-}
-
-pub fn get_f64(s: &[u8], at: usize) -> ReadF
-    requires { ⌜ at + 8 ≤ length (now s) ⌝ }
-    ensures { λ r. ⌜ r ≡ readF (unle (part (now (s .entry)) at 8)) ⌝ }
-{
-    let b = get_u64(s, at);
-    if is_fine(b) {
-        ReadF::Number(float_of(b))
-    } else {
-        ReadF::OtherNan
-    }
 }

@@ -14,7 +14,7 @@ use Rattle.codec.specs.Lists.{put, part}
 use Rattle.codec.proofs.Lists.{put-nil, put-one, put-next, put-whole, put-length, part-length}
 use Rattle.grid.specs.declared.Record.{Record}
 use Rattle.grid.specs.declared.stores.Lengths.{Lengths}
-use Rattle.grid.specs.Sound.{Sound}
+use Rattle.grid.specs.Inner.Sound.{Sound}
 use Rattle.grid.specs.Stores.{zeros, storeLengths}
 use Rattle.grid.proofs.Settled.{lent-none}
 use Rattle.grid.proofs.Tests.{and-left, and-right}

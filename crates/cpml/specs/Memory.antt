@@ -1,5 +1,5 @@
--- The twelve memories of the convolution, and how one number of them moves on (Roden and Gedney 2000; cpml.rs, `Psi`, `psi_mut`, `advance`).
--- Definitions only.
+-- How one number of a memory ψ of the convolution moves on, and the twelve memories by name (Roden and Gedney 2000; cpml.rs, `advance`, `Psi`, `psi_mut`). `Advanced`
+-- (src/lib.rt) has the memory after it and the answer, which joins the curl. Definitions only.
 use Prim.Native.Nat.{ℕ, _*_}
 use mathlib.Core.Bool.{Bool, true, false, cond}
 use mathlib.Core.List.{List, [], _∷_}
@@ -12,6 +12,13 @@ use Rattle.cpml.specs.declared.Place.{Place}
 use Rattle.cpml.specs.declared.Psi.{Psi}
 use Rattle.cpml.specs.declared.Psi.the-variants.{Exy, Exz, Eyz, Eyx, Ezx, Ezy, Hxy, Hxz, Hyz, Hyx, Hzx, Hzy}
 
+-- ψ(n+1) = b ψ(n) + c ∂F/∂w; where c is 0.0, -0.0 too, the answer is +0.0 and the memory stands
+unfoldable pub advanced : (b c memory deriv : Float) → Advanced
+advanced b c memory deriv =
+    let v = b ⊗ memory ⊕ c ⊗ deriv in
+    cond (eq c zeroF) (record { memory = memory; answer = zeroF }) (record { memory = v; answer = v })
+
+-- ---- the twelve by name; no formula of the step needs what follows
 -- which of the two stores, and which of its six parts
 abbrev at : Bool → ℕ → Place
 at electric number = record { electric = electric; number = number }
@@ -68,9 +75,3 @@ inOrder electric k =
 -- the N numbers of one memory
 unfoldable pub memoryOf : Psi → (psiE psiH : List Float) → ℕ → List Float
 memoryOf which psiE psiH n = part (cond (placeOf which .electric) psiE psiH) (placeOf which .number * n) n
-
--- ψ(n+1) = b ψ(n) + c ∂F/∂w; where c is 0.0, -0.0 too, the answer is +0.0 and the memory stands
-unfoldable pub advanced : (b c memory deriv : Float) → Advanced
-advanced b c memory deriv =
-    let v = b ⊗ memory ⊕ c ⊗ deriv in
-    cond (eq c zeroF) (record { memory = memory; answer = zeroF }) (record { memory = v; answer = v })

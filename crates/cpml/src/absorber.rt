@@ -88,7 +88,7 @@ fn cpml_fault(r: Record, psi_e: usize, psi_h: usize, tables: usize, given: usize
 {
     let j = stores::judge(r);
     let l = j.lengths;
-    let lent = opening::layer::layer_fits(psi_e, psi_h, tables, l) & (given == l.tables);
+    let lent = opening::layer::layer_long(psi_e, psi_h, tables, l) & (given == l.tables);
     stores::lent_fault(j.refusal, lent)
 }
 

@@ -1,7 +1,7 @@
 -- A row of one component is what the definition has there, whichever way its sides lie. Assumes nothing.
 use mathlib.Core.Path.{_≡_, refl, sym, _∙_, ap}
 use mathlib.Core.Logic.{⊎-elim}
-use mathlib.Core.Bool.{Bool, true, false, cond, _||_}
+use mathlib.Core.Bool.{Bool, not, true, false, cond, _||_}
 use mathlib.Core.List.{List}
 use Prim.Native.Nat.{ℕ, _+_, _≤_, _<_}
 use native.Mathlib.Nat.{add-assoc}
@@ -11,40 +11,41 @@ use lib.Ieee.{Float, nan}
 use Rattle.root.specs.Rounded.{zeroF}
 use Rattle.fdtd.specs.declared.Axis.{Axis}
 use Rattle.fdtd.specs.declared.rows.Side.{Side}
-use Rattle.fdtd.specs.Yee.{movesE, electric}
-use Rattle.fdtd.specs.Rows.{memOf}
-use Rattle.fdtd.specs.Span.{Span, Two}
+use Rattle.fdtd.specs.Yee.{movesE, updatedE}
+use Rattle.fdtd.specs.Inner.Rows.{sideMemory}
+use Rattle.fdtd.specs.Inner.Span.{Span, Two}
 use Rattle.fdtd.proofs.Spans.{span-as}
 use Rattle.fdtd.proofs.Stands.{Stands}
 use Rattle.fdtd.proofs.Components.{at-curl, Memories, idle-mem, moved-mem}
 use Rattle.electric.specs.declared.row.Change.{Change}
-use Rattle.electric.specs.Row.{slopeOf, dpOf, changeAt, within, fieldOf, fieldE}
+use Rattle.cells.specs.Box.{within}
+use Rattle.electric.specs.Inner.Row.{slopeOf, dpOf, changeAt, fieldOf, fieldE}
 use Rattle.electric.proofs.Slopes.{within-in, within-low, within-high}
 use Rattle.electric.proofs.Edges.{pick-stop}
 
 -- over variables
-pub free : (x y : Bool) {x' y' : Bool} → x' ≡ x → y' ≡ y → (x' || y') ≡ false → cond (x || y) false true ≡ true
+pub free : (x y : Bool) {x' y' : Bool} → x' ≡ x → y' ≡ y → (x' || y') ≡ false → not (x || y) ≡ true
 free x y p q r = let e : (x || y) ≡ false = rw (sym p, sym q) r in rw e
 
-pub barred : (x y : Bool) {x' y' : Bool} → x' ≡ x → y' ≡ y → (x' || y') ≡ true → cond (x || y) false true ≡ false
+pub barred : (x y : Bool) {x' y' : Bool} → x' ≡ x → y' ≡ y → (x' || y') ≡ true → not (x || y) ≡ false
 barred x y p q r = let e : (x || y) ≡ true = rw (sym p, sym q) r in rw e
 
-pub barred-left : (x y : Bool) → x ≡ true → cond (x || y) false true ≡ false
+pub barred-left : (x y : Bool) → x ≡ true → not (x || y) ≡ false
 barred-left x y p = rw p
 
-pub barred-right : (x y : Bool) → y ≡ true → cond (x || y) false true ≡ false
+pub barred-right : (x y : Bool) → y ≡ true → not (x || y) ≡ false
 barred-right true y p = refl
 barred-right false y p = rw p
 
-pub left-free : (x y : Bool) → x ≡ false → cond (x || y) false true ≡ cond y false true
+pub left-free : (x y : Bool) → x ≡ false → not (x || y) ≡ not y
 left-free x y p = rw p
 
-pub right-free : (x y : Bool) → y ≡ false → cond (x || y) false true ≡ cond x false true
+pub right-free : (x y : Bool) → y ≡ false → not (x || y) ≡ not x
 right-free true y p = refl
 right-free false y p = rw p
 
 same : (a b : Float) {go go' : Bool} {dt dt' dp dp' u u' e e' : Float} → go ≡ go' → dt ≡ dt' → dp ≡ dp' → u ≡ u' → e ≡ e'
-    → electric go a b dt dp u e ≡ electric go' a b dt' dp' u' e'
+    → updatedE go a b dt dp u e ≡ updatedE go' a b dt' dp' u' e'
 same a b p o q r s = rw (p, o, q, r, s)
 
 -- dp of a row's cells is there
@@ -70,7 +71,7 @@ module _ (A B C : Axis) (count : ℕ) (h tab mem : List Float) (q i onB onC down
       (at-curl A B C count h tab mem q i onB onC downB (q + i) downC (q + i) b c _ _ sb sc) (ap (λ (x : ℕ). getD e x nan) (add-assoc (A .at) q i))
 
   stop-e : movesE B C onB onC ≡ false → (a b dt dp : Float) (e : List Float) → zeroF ≡ fieldE A B C count h tab mem (q + i) onB onC downB downC a b dt dp e
-  unfolding fieldE electric
+  unfolding fieldE updatedE
   stop-e g a b dt dp e = pick-stop _ _ _ g
 
 module _ (A B C : Axis) (count : ℕ) (h tab mem scr poles e : List Float) (w : Change) (q n : ℕ) (onB onC downB downC : ℕ → ℕ) where
@@ -93,7 +94,7 @@ module _ (A B C : Axis) (count : ℕ) (h tab mem scr poles e : List Float) (w : 
       (sc : (i : ℕ) → Stands c C B h tab mem (slopeOf c h n i) q i (onC i) (downC i) (q + i) (A .mem + count))
       (go : (i : ℕ) → i < n → movesE B C (onB i) (onC i) ≡ within a z i)
       (ee : Span (fieldOf b c d h tab mem scr poles e n a z (A .at + q)) e (A .at + q) 0 n e')
-      (mm : Two (λ i. memOf b tab mem i (slopeOf b h n i)) (λ i. memOf c tab mem i (slopeOf c h n i)) mem (b .mem) (c .mem) a z mem') where
+      (mm : Two (λ i. sideMemory b tab mem i (slopeOf b h n i)) (λ i. sideMemory c tab mem i (slopeOf c h n i)) mem (b .mem) (c .mem) a z mem') where
     pub moved : Moved e' mem'
     moved = (
       span-as _ _ _ _ ee (λ i u l. at-e A B C count h tab mem q i _ _ _ _ b c w d n a z scr poles e ed (sb i) (sc i) (go i l)),

@@ -9,11 +9,12 @@ use lib.Ieee.{Float, nan}
 use Rattle.root.specs.Rounded.{_⊕_, _⊖_, _⊗_, _⊘_, zeroF}
 use Rattle.codec.specs.Lists.{put}
 use Rattle.codec.proofs.Lists.{put-length, put-before, put-inside, put-after}
-use Rattle.fdtd.specs.Yee.{electric}
-use Rattle.fdtd.specs.Span.{Span}
+use Rattle.fdtd.specs.Yee.{updatedE}
+use Rattle.fdtd.specs.Inner.Span.{Span}
 use Rattle.fdtd.proofs.Spans.{span-as, span-join}
 use Rattle.electric.specs.declared.row.Change.{Change}
-use Rattle.electric.specs.Row.{dpOf, within, numberOf}
+use Rattle.cells.specs.Box.{within}
+use Rattle.electric.specs.Inner.Row.{dpOf, numberOf}
 use Rattle.electric.proofs.Slopes.{within-in, within-low, within-high}
 
 module _ (l : List Float) (lo a m : ℕ) (v : Float) (room : lo + a + m ≤ length l) where
@@ -53,20 +54,20 @@ module _ (w : Change) (scr poles e : List Float) (q i : ℕ) where
   pub by-poles : w .on ≡ true
       → (getD scr (1536 + i) nan ⊗ getD e (q + i) nan ⊕ getD scr (1024 + i) nan ⊖ getD poles (w .at + i) nan ⊘ w .dt) ⊘ getD scr (2048 + i) nan
       ≡ numberOf true w scr poles e q i
-  unfolding numberOf electric dpOf
+  unfolding numberOf updatedE dpOf
   by-poles p =
       ap (λ (x : Float). (getD scr (1536 + i) nan ⊗ getD e (q + i) nan ⊕ getD scr (1024 + i) nan ⊖ x ⊘ w .dt) ⊘ getD scr (2048 + i) nan)
       (pick-go (w .on) (getD poles (w .at + i) nan) zeroF p)
 
   pub by-none : w .on ≡ false
       → (getD scr (1536 + i) nan ⊗ getD e (q + i) nan ⊕ getD scr (1024 + i) nan ⊖ zeroF ⊘ w .dt) ⊘ getD scr (2048 + i) nan ≡ numberOf true w scr poles e q i
-  unfolding numberOf electric dpOf
+  unfolding numberOf updatedE dpOf
   by-none p =
       ap (λ (x : Float). (getD scr (1536 + i) nan ⊗ getD e (q + i) nan ⊕ getD scr (1024 + i) nan ⊖ x ⊘ w .dt) ⊘ getD scr (2048 + i) nan)
       (pick-stop (w .on) (getD poles (w .at + i) nan) zeroF p)
 
   stop : (go : Bool) → go ≡ false → zeroF ≡ numberOf go w scr poles e q i
-  unfolding numberOf electric
+  unfolding numberOf updatedE
   stop go p = rw p
 
   go-on : (go : Bool) (e1 : List Float) → go ≡ true → getD e1 (q + i) nan ≡ getD e (q + i) nan → numberOf true w scr poles e1 q i ≡ numberOf go w scr poles e q i

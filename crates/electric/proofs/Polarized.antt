@@ -13,9 +13,9 @@ use Rattle.grid.specs.declared.Record.{Record}
 use Rattle.grid.specs.Stores.{cells}
 use Rattle.ade.specs.Polarization.{deltaP}
 use Rattle.fdtd.specs.declared.turns.Turn.{Turn}
-use Rattle.fdtd.specs.Turns.{turnX, turnY, turnZ, turnFor}
-use Rattle.electric.specs.Row.{dpOf, Held}
-use Rattle.electric.specs.Swept.{changeFor}
+use Rattle.fdtd.specs.Inner.Turns.{turnX, turnY, turnZ, turnFor}
+use Rattle.electric.specs.Inner.Row.{dpOf, DpRoom}
+use Rattle.electric.specs.Inner.Swept.{changeFor}
 
 pub dp-room : (p n l : ℕ) → l ≡ (6 * p + 3) * n → 6 * p * n + 3 * n ≡ l
 dp-room p n l e = sym (e ∙ add-mul (6 * p) 3 n)
@@ -24,15 +24,15 @@ module _ (r : Record) (poles : List Float) (stored : length poles ≡ (6 * r .«
   room : 6 * r .«pole_slots» * cells r + 3 * cells r ≡ length poles
   room = dp-room (r .«pole_slots») (cells r) (length poles) stored
 
-  heldX : Held (turnX r 0) (changeFor r) poles
+  heldX : DpRoom (turnX r 0) (changeFor r) poles
   heldX = record { r = omega (arith, room); s = omega (arith, room); t = omega (arith, room) }
 
-  held-case : (a b : Bool) → Held (cond a (cond b (turnZ r 0) (turnY r 0)) (turnX r 0)) (changeFor r) poles
+  held-case : (a b : Bool) → DpRoom (cond a (cond b (turnZ r 0) (turnY r 0)) (turnX r 0)) (changeFor r) poles
   held-case true true = record { r = heldX .t; s = heldX .r; t = heldX .s }
   held-case true false = record { r = heldX .s; s = heldX .t; t = heldX .r }
   held-case false b = heldX
 
-  pub held-for : {g : Turn} → g ≡ turnFor r 0 → Held g (changeFor r) poles
+  pub held-for : {g : Turn} → g ≡ turnFor r 0 → DpRoom g (changeFor r) poles
   held-for p = rw p (held-case (eqb (r .nx) 1) (eqb (r .ny) 1))
 
 turned : (b : Bool) (x y : Float) → cond (not b) x y ≡ cond b y x

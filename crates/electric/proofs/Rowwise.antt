@@ -11,13 +11,13 @@ use Rattle.fdtd.specs.declared.turns.Turn.{Turn}
 use Rattle.fdtd.specs.declared.turns.Spot.{Spot}
 use Rattle.fdtd.specs.Axes.{previousOf}
 use Rattle.fdtd.specs.Yee.{ca, cb, movesE}
-use Rattle.fdtd.specs.Span.{Two, Top}
-use Rattle.fdtd.specs.Turns.{rowAt, spotOf, Laid}
+use Rattle.fdtd.specs.Inner.Span.{Two, Top}
+use Rattle.fdtd.specs.Inner.Turns.{rowAt, spotOf, Laid, onR, onS, onT}
 use Rattle.fdtd.proofs.Components.{curl-own, b-own, c-own}
 use Rattle.fdtd.proofs.Lines.{Right, line-law}
 use Rattle.electric.specs.declared.row.Change.{Change}
-use Rattle.electric.specs.Row.{dpOf, fieldE, firstE, secondE}
-use Rattle.electric.specs.Swept.{Carried, madeOf, caAt, cbAt, onR, onS, onT, downR, downS, downT}
+use Rattle.electric.specs.Inner.Row.{dpOf, fieldE, firstE, secondE}
+use Rattle.electric.specs.Inner.Swept.{Carried, madeOf, caAt, cbAt, downR, downS, downT}
 use Rattle.electric.proofs.Component.{Moved}
 
 -- a cell's new number hangs on the stores by its own numbers alone

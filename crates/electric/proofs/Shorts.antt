@@ -11,16 +11,17 @@ use Rattle.fdtd.specs.declared.Coef.{Coef}
 use Rattle.fdtd.specs.declared.single.Shared.{Shared}
 use Rattle.fdtd.specs.declared.turns.Turn.{Turn}
 use Rattle.fdtd.specs.Axes.{previousOf, walled}
-use Rattle.fdtd.specs.Yee.{ca, cb, coefAt, movesE, electric}
-use Rattle.fdtd.specs.Turns.{round, rowAt, Laid}
-use Rattle.fdtd.specs.Begun.{curlBy, firstBy, secondBy, Lone, Both, Moved, Known}
+use Rattle.fdtd.specs.Yee.{ca, cb, coefAt, movesE, updatedE}
+use Rattle.fdtd.specs.Inner.Turns.{round, rowAt, Laid, onR, onS, onT}
+use Rattle.fdtd.specs.Inner.Begun.{Lone, Both, StoredBy, Known}
+use Rattle.fdtd.specs.Inner.Cell.{curlBy, firstBy, secondBy}
 use Rattle.fdtd.proofs.Singles.{lone-as, memories-go, memories-left, by-curl, own-memories}
 use Rattle.fdtd.proofs.Beside.{FairBy, cell-beside}
 use Rattle.electric.specs.declared.row.Change.{Change}
 use Rattle.electric.specs.declared.row.Weights.{Weights}
-use Rattle.electric.specs.Row.{dpOf, fieldE, Held}
-use Rattle.electric.specs.Swept.{madeOf, caAt, cbAt, onR, onS, onT, downR, downS, downT}
-use Rattle.electric.specs.Celled.{fieldBy, ruleE, Moving}
+use Rattle.electric.specs.Inner.Row.{dpOf, fieldE, DpRoom}
+use Rattle.electric.specs.Inner.Swept.{madeOf, caAt, cbAt, downR, downS, downT}
+use Rattle.electric.specs.Inner.Celled.{fieldBy, ruleE, Moving}
 use Rattle.electric.proofs.Rowwise.{e-own}
 
 -- dp/dt with dispersion, and without
@@ -34,7 +35,7 @@ module _ (w : Change) (poles : List Float) (i : ℕ) where
   term-off o e = e ∙ ap (λ (b : Bool). cond b (getD poles (w .at + i) nan) zeroF ⊘ w .dt) (sym o)
 
 -- dp of the components along s and t
-module _ {w : Change} {g : Turn} {poles : List Float} (held : Held g w poles) where
+module _ {w : Change} {g : Turn} {poles : List Float} (held : DpRoom g w poles) where
   pub held-s : {gs : Turn} → gs ≡ round g → w .at + gs .r .at + gs .count ≤ length poles
   held-s e = rw e (held .s)
 
@@ -48,20 +49,20 @@ module _ (g : Turn) (h mem : List Float) (cell downB downC : ℕ) (moves : Bool)
 
   go-field : moves ≡ true → {u y : Float} → u ≡ curlBy (g .r) (g .s) (g .t) (g .count) h mem cell downB cell downC cell kb kc → y ≡ dpOf w poles (g .r .at + cell) ⊘ w .dt
       → (a ⊗ getD e (g .r .at + cell) nan ⊕ u ⊖ y) ⊘ b ≡ new
-  unfolding fieldBy electric
+  unfolding fieldBy updatedE
   go-field go eu ey = rw (go, eu, ey)
 
   stop-field : moves ≡ false → zeroF ≡ new
-  unfolding fieldBy electric
+  unfolding fieldBy updatedE
   stop-field stop = rw stop
 
   pub moved-on : moves ≡ true → {u y x : Float} {e' mem' : List Float} → u ≡ curlBy (g .r) (g .s) (g .t) (g .count) h mem cell downB cell downC cell kb kc → y ≡ dpOf w poles (g .r .at + cell) ⊘ w .dt
       → x ≡ (a ⊗ getD e (g .r .at + cell) nan ⊕ u ⊖ y) ⊘ b → Lone x e (g .r .at + cell) e'
       → Both (firstBy (g .r) (g .s) (g .t) (g .count) h mem cell downB cell downC cell kb kc true) (secondBy (g .r) (g .s) (g .t) (g .count) h mem cell downB cell downC cell kb kc true) mem (g .r .mem + cell) (g .r .mem + g .count + cell) mem'
-      → Moved (ruleE h w poles a b) g cell downB downC moves kb kc e mem e' mem'
+      → StoredBy (ruleE h w poles a b) g cell downB downC moves kb kc e mem e' mem'
   moved-on go eu ey ex l k = (lone-as l (ex ∙ go-field go eu ey), memories-go (g .r) (g .s) (g .t) (g .count) h mem cell downB cell downC cell kb kc moves go k)
 
-  pub walled-off : moves ≡ false → {e' : List Float} → Lone zeroF e (g .r .at + cell) e' → Moved (ruleE h w poles a b) g cell downB downC moves kb kc e mem e' mem
+  pub walled-off : moves ≡ false → {e' : List Float} → Lone zeroF e (g .r .at + cell) e' → StoredBy (ruleE h w poles a b) g cell downB downC moves kb kc e mem e' mem
   walled-off stop l = (lone-as l (stop-field stop), memories-left (g .r) (g .s) (g .t) (g .count) h mem cell downB cell downC cell kb kc moves stop)
 
 -- it is the definition's
@@ -71,7 +72,7 @@ unfolding fieldBy fieldE
 by-field A B C count h tab mem cell onB onC downB downC a b dt dp e = rw (by-curl A B C count h mem cell downB cell downC cell tab onB onC)
 
 -- on neither wall
-free-both : (x y : Bool) → (not x && not y) ≡ cond (x || y) false true
+free-both : (x y : Bool) → (not x && not y) ≡ not (x || y)
 free-both true y = refl
 free-both false true = refl
 free-both false false = refl
@@ -101,9 +102,9 @@ module _ (eps0 : Float) (w : Change) (g : Turn) (h media tab poles : List Float)
       (es : sigma ≡ getD media (2 * g .count + (v .q + i)) nan) (ea : f .ca ≡ ca eps0 (g .dt) (getD media (v .q + i) nan) sigma)
       (eb : f .cb ≡ cb eps0 (g .dt) (getD media (v .q + i) nan) sigma)
       (d1 : b1 ≡ (v .gos && v .got)) (d2 : b2 ≡ (v .got && gor)) (d3 : b3 ≡ (gor && v .gos)) (ns : gs ≡ round g) (nt : gt ≡ round gs)
-      (one : Moved (ruleE h w poles (f .ca) (f .cb)) g (v .q + i) (v .bs + i) (v .bt + i) b1 (v .ks) (v .kt) e m e1 m1)
-      (two : Moved (ruleE h w poles (f .ca) (f .cb)) gs (v .q + i) (v .bt + i) (v .q + nr) b2 (v .kt) kr e1 m1 e2 m2)
-      (three : Moved (ruleE h w poles (f .ca) (f .cb)) gt (v .q + i) (v .q + nr) (v .bs + i) b3 kr (v .ks) e2 m2 e3 m3) where
+      (one : StoredBy (ruleE h w poles (f .ca) (f .cb)) g (v .q + i) (v .bs + i) (v .bt + i) b1 (v .ks) (v .kt) e m e1 m1)
+      (two : StoredBy (ruleE h w poles (f .ca) (f .cb)) gs (v .q + i) (v .bt + i) (v .q + nr) b2 (v .kt) kr e1 m1 e2 m2)
+      (three : StoredBy (ruleE h w poles (f .ca) (f .cb)) gt (v .q + i) (v .q + nr) (v .bs + i) b3 kr (v .ks) e2 m2 e3 m3) where
     at-ca : f .ca ≡ caE
     at-ca = ea ∙ ap (λ (x : Float). ca eps0 (g .dt) (getD media (v .q + i) nan) x) es ∙ ap (λ (x : Shared). caAt eps0 g media (x .q + i)) (known .is)
 
@@ -111,7 +112,7 @@ module _ (eps0 : Float) (w : Change) (g : Turn) (h media tab poles : List Float)
     at-cb = eb ∙ ap (λ (x : Float). cb eps0 (g .dt) (getD media (v .q + i) nan) x) es ∙ ap (λ (x : Shared). cbAt eps0 g media (x .q + i)) (known .is)
 
     as-made : (g' : Turn) (cell nB nC : ℕ) (go : Bool) (kb kc : Coef) (x m x' m' : List Float)
-        → Moved (ruleE h w poles (f .ca) (f .cb)) g' cell nB nC go kb kc x m x' m' → Moved (ruleE h w poles caE cbE) g' cell nB nC go kb kc x m x' m'
+        → StoredBy (ruleE h w poles (f .ca) (f .cb)) g' cell nB nC go kb kc x m x' m' → StoredBy (ruleE h w poles caE cbE) g' cell nB nC go kb kc x m x' m'
     as-made g' cell nB nC go kb kc x m x' m' k = rw (← at-ca, ← at-cb) k
 
     pub cell-shared : Moving eps0 w g h media tab poles s t i e m e3 m3

@@ -6,8 +6,8 @@ use mathlib.Core.List.{List}
 use Prim.Native.Nat.{ℕ, _+_, _-_, _≤_, _<_}
 use native.Mathlib.Nat.{add-assoc, eq-or-lt-of-le}
 use native.Mathlib.Omega.{arith}
-use borrow.Author.Tests.{lt-ltb, le-ltb, ltb-true, ltb-false, eqb-true, eqb-false, ne-eqb}
-use lib.Dec.{ltb, eqb}
+use borrow.Author.Tests.{lt-ltb, le-ltb, ltb-true, le-leb, lt-leb, leb-true, eqb-true, eqb-false, ne-eqb}
+use lib.Dec.{leb, ltb, eqb}
 use lib.ListN.{getD}
 use lib.Ieee.{Float, nan}
 use Rattle.root.specs.Rounded.{_⊖_}
@@ -16,9 +16,10 @@ use Rattle.fdtd.specs.declared.rows.Side.{Side}
 use Rattle.fdtd.specs.declared.turns.Run.{Run}
 use Rattle.fdtd.specs.Axes.{previousOf}
 use Rattle.fdtd.specs.Yee.{slope, derivative}
-use Rattle.fdtd.specs.Span.{Put, Trio}
-use Rattle.fdtd.specs.Turns.{acrossOf, alongOf, Lull}
-use Rattle.electric.specs.Row.{beforeAt, slopeOf, within, Ready}
+use Rattle.fdtd.specs.Inner.Span.{Put, Trio}
+use Rattle.fdtd.specs.Inner.Turns.{sideAcross, sideAlong, Lull}
+use Rattle.cells.specs.Box.{within}
+use Rattle.electric.specs.Inner.Row.{beforeAt, slopeOf, OffWallRun}
 
 before-inner : (b : Bool) (own other i n : ℕ) → 1 ≤ i → cond b own (other + 1) + (i - 1) ≡ cond b (own + previousOf i n) (other + i)
 before-inner true own other i n h = rw (ne-eqb i 0 (λ e. omega arith))
@@ -73,44 +74,40 @@ trio-from {f} {g} {old} {new} {a} {a'} {z} w e = subst (λ (k : ℕ). Trio f g o
 
 -- the derivatives of the two kinds of side, by the cells' places
 module _ (w v : Axis) (h tab : List Float) (n q i p a z down mem : ℕ) where
-  across' : slopeOf (acrossOf w tab p a z (v .at + q) (v .at + down) mem) h n i ≡ derivative w v h (down + i) (q + i)
+  across' : slopeOf (sideAcross w tab p a z (v .at + q) (v .at + down) mem) h n i ≡ derivative w v h (down + i) (q + i)
   unfolding slopeOf beforeAt
   across' = rw (add-assoc (v .at) q i, add-assoc (v .at) down i)
 
-  pub across-slope : {s : Side} → s ≡ acrossOf w tab p a z (v .at + q) (v .at + down) mem → slopeOf s h n i ≡ derivative w v h (down + i) (q + i)
+  pub across-slope : {s : Side} → s ≡ sideAcross w tab p a z (v .at + q) (v .at + down) mem → slopeOf s h n i ≡ derivative w v h (down + i) (q + i)
   across-slope r = rw r across'
 
 module _ (w v : Axis) (h : List Float) (q i : ℕ) (run : Run) (mem : ℕ) where
-  along' : slopeOf (alongOf w run (v .at + q) mem) h (w .n) i ≡ derivative w v h (q + previousOf i (w .n)) (q + i)
+  along' : slopeOf (sideAlong w run (v .at + q) mem) h (w .n) i ≡ derivative w v h (q + previousOf i (w .n)) (q + i)
   unfolding slopeOf beforeAt
   along' = rw (add-assoc (v .at) q i, add-assoc (v .at) q (previousOf i (w .n)))
 
-  pub along-slope : {s : Side} → s ≡ alongOf w run (v .at + q) mem → slopeOf s h (w .n) i ≡ derivative w v h (q + previousOf i (w .n)) (q + i)
+  pub along-slope : {s : Side} → s ≡ sideAlong w run (v .at + q) mem → slopeOf s h (w .n) i ≡ derivative w v h (q + previousOf i (w .n)) (q + i)
   along-slope r = rw r along'
 
 -- ---- which cells move
 pub within-in : (a z i : ℕ) → a ≤ i → i < z → within a z i ≡ true
-unfolding within
-within-in a z i g h = rw (le-ltb i a g) (lt-ltb i z h)
+within-in a z i g h = rw (le-leb a i g) (lt-ltb i z h)
 
 pub within-low : (a z i : ℕ) → i < a → within a z i ≡ false
-unfolding within
-within-low a z i h = rw (lt-ltb i a h)
+within-low a z i h = rw (lt-leb a i h)
 
 pub within-high : (a z i : ℕ) → a ≤ i → z ≤ i → within a z i ≡ false
-unfolding within
-within-high a z i g h = rw (le-ltb i a g) (le-ltb i z h)
+within-high a z i g h = rw (le-leb a i g) (le-ltb i z h)
 
-within-case : (x : Bool) (a z i : ℕ) → ltb i a ≡ x → cond x false (ltb i z) ≡ true → (a ≤ i) × (i < z)
-within-case true a z i p e = absurd (let c : _≡_ {A = ℕ} 0 1 = cc in omega arith)
-within-case false a z i p e = (ltb-false i a p, ltb-true i z e)
+within-case : (x : Bool) (a z i : ℕ) → leb a i ≡ x → (x && ltb i z) ≡ true → (a ≤ i) × (i < z)
+within-case true a z i p e = (leb-true a i p, ltb-true i z e)
+within-case false a z i p e = absurd (let c : _≡_ {A = ℕ} 0 1 = cc in omega arith)
 
 pub within-of : (a z i : ℕ) → within a z i ≡ true → (a ≤ i) × (i < z)
-unfolding within
-within-of a z i e = within-case (ltb i a) a z i refl e
+within-of a z i e = within-case (leb a i) a z i refl e
 
 -- an axis that does not wrap has a wall at its first place and one at its last
-inner-case : (x y : Bool) (n i : ℕ) → eqb i 0 ≡ x → eqb i (n - 1) ≡ y → i < n → cond (x || y) false true ≡ within 1 (n - 1) i
+inner-case : (x y : Bool) (n i : ℕ) → eqb i 0 ≡ x → eqb i (n - 1) ≡ y → i < n → not (x || y) ≡ within 1 (n - 1) i
 inner-case true y n i p q l = sym (within-low 1 (n - 1) i (omega (arith, eqb-true i 0 p)))
 inner-case false true n i p q l =
     let e : i ≡ n - 1 = eqb-true i (n - 1) q in
@@ -126,7 +123,7 @@ one-case true n i z p e l = let u : i < 1 = omega (arith, eqb-true n 1 p) in wit
 one-case false n i z p e l = ap (λ (x : ℕ). within 1 x i) (sym e)
 
 pub walls : (wraps : Bool) (n i a z : ℕ) → a ≡ cond wraps 0 1 → z ≡ cond wraps n (cond (eqb n 1) 1 (n - 1)) → i < n
-    → cond (not wraps && (eqb i 0 || eqb i (n - 1))) false true ≡ within a z i
+    → not (not wraps && (eqb i 0 || eqb i (n - 1))) ≡ within a z i
 walls true n i a z ea ez l = sym (within-in a z i (omega arith) (omega arith))
 walls false n i a z ea ez l =
     inner-case (eqb i 0) (eqb i (n - 1)) n i refl refl l ∙ one-case (eqb n 1) n i z refl ez l ∙ ap (λ (x : ℕ). within x z i) (sym ea)
@@ -145,7 +142,7 @@ end-fits true n z e h = (omega arith, omega arith)
 end-fits false n z e h = end-case (eqb n 1) n z refl e h
 
 pub ready-of : {w : Axis} {tab : List Float} {a z : ℕ} {run : Run} → Lull w tab a z run → a ≡ cond (w .wraps) 0 1
-    → z ≡ cond (w .wraps) (w .n) (cond (eqb (w .n) 1) 1 (w .n - 1)) → Ready w tab run
+    → z ≡ cond (w .wraps) (w .n) (cond (eqb (w .n) 1) 1 (w .n - 1)) → OffWallRun w tab run
 ready-of {w} {tab} {a} {z} {run} l ea ez =
     record {
       lull = subst (λ (x : ℕ). Lull w tab x (run .end) run) (sym (l .starts)) (subst (λ (x : ℕ). Lull w tab a x run) (sym (l .ends)) l);

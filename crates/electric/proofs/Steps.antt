@@ -15,18 +15,19 @@ use Rattle.ade.specs.Polarization.{deltaP}
 use Rattle.fdtd.specs.declared.Axis.{Axis}
 use Rattle.fdtd.specs.declared.turns.Turn.{Turn}
 use Rattle.fdtd.specs.Axes.{axis, previousOf}
-use Rattle.fdtd.specs.Yee.{ca, cb, electric}
+use Rattle.fdtd.specs.Yee.{ca, cb, updatedE}
+use Rattle.fdtd.specs.Inner.Cell.{curlOn, firstOn, secondOn}
 use Rattle.fdtd.specs.Halves.{halfE, movesAt, curlAt, firstAfter, secondAfter, psiAfter, electricAt, electricAfter}
-use Rattle.fdtd.specs.Turns.{turnX, turnY, turnZ, turnFor}
+use Rattle.fdtd.specs.Inner.Turns.{turnX, turnY, turnZ, turnFor}
 use Rattle.fdtd.proofs.Grids.{All, inX, inY, inZ, Of, field-is, memories-are}
-use Rattle.electric.specs.Row.{dpOf, fieldE, firstE, secondE}
-use Rattle.electric.specs.Swept.{Swept, changeFor}
+use Rattle.electric.specs.Inner.Row.{dpOf, fieldE, firstE, secondE}
+use Rattle.electric.specs.Inner.Swept.{Swept, changeFor}
 use Rattle.electric.proofs.Slopes.{previous-less}
 use Rattle.electric.proofs.Polarized.{delta-is}
 
 -- over variables
 by-place : (go : Bool) (eps0 dt sigma u : Float) {epsR epsR' dp dp' e e' : Float} → epsR ≡ epsR' → dp ≡ dp' → e ≡ e'
-    → electric go (ca eps0 dt epsR sigma) (cb eps0 dt epsR sigma) dt dp u e ≡ electric go (ca eps0 dt epsR' sigma) (cb eps0 dt epsR' sigma) dt dp' u e'
+    → updatedE go (ca eps0 dt epsR sigma) (cb eps0 dt epsR sigma) dt dp u e ≡ updatedE go (ca eps0 dt epsR' sigma) (cb eps0 dt epsR' sigma) dt dp' u e'
 by-place go eps0 dt sigma u p q s = rw (p, q, s)
 
 module _ (eps0 : Float) (r : Record) (h media tab poles e m e' m' : List Float) where
@@ -58,18 +59,18 @@ module _ (eps0 : Float) (r : Record) (h media tab poles e m e' m' : List Float) 
 
   -- they are the definition's
   field-same : (a i j k : ℕ) → axis r 0 a .at ≡ a * cells r → Of r 0 previousOf F a i j k ≡ electricAt eps0 r h media tab (deltaP r poles) m e a i j k
-  unfolding electricAt movesAt curlAt fieldE
+  unfolding electricAt movesAt curlAt curlOn fieldE
   field-same a i j k p =
       let cell : ℕ = cellIndex (r .nx) (r .ny) i j k in
       let none : cell ≡ 0 * cells r + cell = omega arith in
       by-place _ eps0 (r .spacings .dt) _ _ (ap (λ (n : ℕ). getD media n nan) none) (delta-is r poles a (axis r 0 a .at) cell p) (ap (λ (n : ℕ). getD e (n + cell) nan) p)
 
   first-same : (a i j k : ℕ) → Of r 0 previousOf G a i j k ≡ firstAfter halfE r h tab m a i j k
-  unfolding firstAfter movesAt
+  unfolding firstAfter firstOn movesAt
   first-same a i j k = refl
 
   second-same : (a i j k : ℕ) → Of r 0 previousOf K a i j k ≡ secondAfter halfE r h tab m a i j k
-  unfolding secondAfter movesAt
+  unfolding secondAfter secondOn movesAt
   second-same a i j k = refl
 
   module _ (le : length e ≡ 3 * cells r) (lm : length m ≡ 6 * cells r) (g : Turn) (p : g ≡ turnFor r 0)

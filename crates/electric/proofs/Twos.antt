@@ -7,7 +7,7 @@ use borrow.Author.Count.{below-more}
 use lib.ListN.{length, getD, set, length-set}
 use lib.Seq.{getD-set-same, getD-set-other}
 use lib.Ieee.{Float, nan}
-use Rattle.fdtd.specs.Span.{Two}
+use Rattle.fdtd.specs.Inner.Span.{Two}
 
 module _ (f g : ℕ → Float) (old : List Float) (lo hi a : ℕ) where
   pub two-start : Two f g old lo hi a a old

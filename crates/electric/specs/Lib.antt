@@ -1,4 +1,2 @@
 -- What the contracts of the electric half step cite.
-pub mod Row
-pub mod Swept
-pub mod Celled
+pub mod Inner

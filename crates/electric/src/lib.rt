@@ -8,15 +8,15 @@ ghost use Prim.Native.Nat.{_+_, _*_, _-_, _≤_, _<_};
 ghost use lib.Dec.{eqb};
 ghost use lib.ListN.{length, getD};
 ghost use lib.Ieee.{nan};
-ghost use Rattle.grid.specs.Sound.{Sound};
+ghost use Rattle.grid.specs.Inner.Sound.{Sound};
 ghost use Rattle.grid.specs.Stores.{cells};
 ghost use Rattle.ade.specs.Polarization.{deltaP};
 ghost use Rattle.fdtd.specs.Axes.{previousOf, walled};
 ghost use Rattle.fdtd.specs.Halves.{halfE, psiAfter, electricAfter};
-ghost use Rattle.fdtd.specs.Span.{Span, Two, Top};
-ghost use Rattle.fdtd.specs.Turns.{Fit, Laid};
-ghost use Rattle.electric.specs.Row.{changeAt, dpOf, fieldE, firstE, secondE, Ready, Held};
-ghost use Rattle.electric.specs.Swept.{Swept, Carried};
+ghost use Rattle.fdtd.specs.Inner.Span.{Span, Two, Top};
+ghost use Rattle.fdtd.specs.Inner.Turns.{Fit, Laid};
+ghost use Rattle.electric.specs.Inner.Row.{changeAt, dpOf, fieldE, firstE, secondE, OffWallRun, DpRoom};
+ghost use Rattle.electric.specs.Inner.Swept.{Swept, Carried};
 use fdtd::Axis;
 use fdtd::single;
 use fdtd::turns;
@@ -102,7 +102,7 @@ fn comp_s(
     requires { ⌜ Fit g (now h) (now tab) (now mem) (now e) ⌝ }
     requires { ⌜ (p .s < g .s .n) × (p .t < g .t .n) × (length (now scr) ≡ 2560) × (w .at + g .s .at + g .count ≤ length (now poles)) ⌝ }
     requires { ⌜ (p .q + g .r .n ≤ g .count) × (p .bs + g .r .n ≤ g .count) × (p .bt + g .r .n ≤ g .count) ⌝ }
-    requires { ⌜ Ready (g .r) (now tab) run ⌝ }
+    requires { ⌜ OffWallRun (g .r) (now tab) run ⌝ }
     ensures { λ _. ⌜ Span (λ i. fieldE (g .s) (g .t) (g .r) (g .count) (now (h .entry)) (now (tab .entry)) (now (mem .entry)) (p .q + i) (p .t) i (p .bt + i) (p .q + previousOf i (g .r .n)) (getD (now (scr .entry)) (1536 + i) nan) (getD (now (scr .entry)) (2048 + i) nan) (w .dt) (dpOf w (now (poles .entry)) (g .s .at + (p .q + i))) (now (e .entry))) (now (e .entry)) (g .s .at + p .q) 0 (g .r .n) (now (e .exit)) ⌝ }
     ensures { λ _. ⌜ Two (λ i. firstE (g .s) (g .t) (g .r) (g .count) (now (h .entry)) (now (tab .entry)) (now (mem .entry)) (p .q + i) (p .t) i (p .bt + i) (p .q + previousOf i (g .r .n))) (λ i. secondE (g .s) (g .t) (g .r) (g .count) (now (h .entry)) (now (tab .entry)) (now (mem .entry)) (p .q + i) (p .t) i (p .bt + i) (p .q + previousOf i (g .r .n))) (now (mem .entry)) (g .s .mem + p .q) (g .s .mem + g .count + p .q) 0 (g .r .n) (now (mem .exit)) ⌝ }
     ensures { λ _. ⌜ Top (now (scr .entry)) 1536 (now (scr .exit)) ⌝ }
@@ -138,7 +138,7 @@ fn comp_t(
     requires { ⌜ Fit g (now h) (now tab) (now mem) (now e) ⌝ }
     requires { ⌜ (p .s < g .s .n) × (p .t < g .t .n) × (length (now scr) ≡ 2560) × (w .at + g .t .at + g .count ≤ length (now poles)) ⌝ }
     requires { ⌜ (p .q + g .r .n ≤ g .count) × (p .bs + g .r .n ≤ g .count) × (p .bt + g .r .n ≤ g .count) ⌝ }
-    requires { ⌜ Ready (g .r) (now tab) run ⌝ }
+    requires { ⌜ OffWallRun (g .r) (now tab) run ⌝ }
     ensures { λ _. ⌜ Span (λ i. fieldE (g .t) (g .r) (g .s) (g .count) (now (h .entry)) (now (tab .entry)) (now (mem .entry)) (p .q + i) i (p .s) (p .q + previousOf i (g .r .n)) (p .bs + i) (getD (now (scr .entry)) (1536 + i) nan) (getD (now (scr .entry)) (2048 + i) nan) (w .dt) (dpOf w (now (poles .entry)) (g .t .at + (p .q + i))) (now (e .entry))) (now (e .entry)) (g .t .at + p .q) 0 (g .r .n) (now (e .exit)) ⌝ }
     ensures { λ _. ⌜ Two (λ i. firstE (g .t) (g .r) (g .s) (g .count) (now (h .entry)) (now (tab .entry)) (now (mem .entry)) (p .q + i) i (p .s) (p .q + previousOf i (g .r .n)) (p .bs + i)) (λ i. secondE (g .t) (g .r) (g .s) (g .count) (now (h .entry)) (now (tab .entry)) (now (mem .entry)) (p .q + i) i (p .s) (p .q + previousOf i (g .r .n)) (p .bs + i)) (now (mem .entry)) (g .t .mem + p .q) (g .t .mem + g .count + p .q) 0 (g .r .n) (now (mem .exit)) ⌝ }
     ensures { λ _. ⌜ Top (now (scr .entry)) 1536 (now (scr .exit)) ⌝ }
@@ -176,8 +176,8 @@ fn line(
 )
     requires { ⌜ Fit g (now h) (now tab) (now mem) (now e) ⌝ }
     requires { ⌜ Laid g ⌝ }
-    requires { ⌜ Ready (g .r) (now tab) run ⌝ }
-    requires { ⌜ Held g w (now poles) ⌝ }
+    requires { ⌜ OffWallRun (g .r) (now tab) run ⌝ }
+    requires { ⌜ DpRoom g w (now poles) ⌝ }
     requires { ⌜ (s < g .s .n) × (t < g .t .n) × (length (now scr) ≡ 2560) × (g .count + g .count + g .count ≤ length (now media)) ⌝ }
     ensures { λ _. ⌜ Carried eps0 w g (now (h .entry)) (now (media .entry)) (now (tab .entry)) (now (poles .entry)) s t (now (e .entry)) (now (mem .entry)) (now (e .exit)) (now (mem .exit)) ⌝ }
 {
@@ -206,8 +206,8 @@ fn sweep(
 )
     requires { ⌜ Fit g (now h) (now tab) (now mem) (now e) ⌝ }
     requires { ⌜ Laid g ⌝ }
-    requires { ⌜ Ready (g .r) (now tab) run ⌝ }
-    requires { ⌜ Held g w (now poles) ⌝ }
+    requires { ⌜ OffWallRun (g .r) (now tab) run ⌝ }
+    requires { ⌜ DpRoom g w (now poles) ⌝ }
     requires { ⌜ (length (now scr) ≡ 2560) × (g .count + g .count + g .count ≤ length (now media)) ⌝ }
     ensures { λ _. ⌜ Swept eps0 w g (now (h .entry)) (now (media .entry)) (now (tab .entry)) (now (poles .entry)) (now (e .entry)) (now (mem .entry)) (g .t .n * g .s .n) (now (e .exit)) (now (mem .exit)) ⌝ }
 {
@@ -256,7 +256,7 @@ fn step_along(
 )
     requires { ⌜ Fit g (now h) (now tab) (now mem) (now e) ⌝ }
     requires { ⌜ Laid g ⌝ }
-    requires { ⌜ Held g w (now poles) ⌝ }
+    requires { ⌜ DpRoom g w (now poles) ⌝ }
     requires { ⌜ g .count + g .count + g .count ≤ length (now media) ⌝ }
     ensures { λ _. ⌜ Swept eps0 w g (now (h .entry)) (now (media .entry)) (now (tab .entry)) (now (poles .entry)) (now (e .entry)) (now (mem .entry)) (g .t .n * g .s .n) (now (e .exit)) (now (mem .exit)) ⌝ }
 {

@@ -7,9 +7,10 @@ ghost use lib.ListN.{length, getD};
 ghost use lib.Ieee.{nan};
 ghost use Rattle.root.specs.Rounded.{_⊕_, _⊖_, _⊗_, _⊘_};
 ghost use Rattle.fdtd.specs.Yee.{ca, cb};
-ghost use Rattle.fdtd.specs.Span.{Span, Two, Top, Trio};
-ghost use Rattle.fdtd.specs.Rows.{memOf, Calm, Room};
-ghost use Rattle.electric.specs.Row.{within, slopeOf, numberOf, fieldOf};
+ghost use Rattle.fdtd.specs.Inner.Span.{Span, Two, Top, Trio};
+ghost use Rattle.fdtd.specs.Inner.Rows.{sideMemory, Calm, SideRoom};
+ghost use Rattle.cells.specs.Box.{within};
+ghost use Rattle.electric.specs.Inner.Row.{slopeOf, numberOf, fieldOf};
 use fdtd::rows;
 use fdtd::rows::Side;
 use grid::stores;
@@ -194,11 +195,11 @@ pub fn row(
 )
     requires { ⌜ (a ≤ 1) × (1 ≤ z) × (z ≤ n) × (n ≤ 512) ⌝ }
     requires { ⌜ (q + n ≤ length (now e)) × (w .at + n ≤ length (now poles)) × (length (now scr) ≡ 2560) ⌝ }
-    requires { ⌜ Room b (now h) (now tab) (now mem) n × Room c (now h) (now tab) (now mem) n ⌝ }
+    requires { ⌜ SideRoom b (now h) (now tab) (now mem) n × SideRoom c (now h) (now tab) (now mem) n ⌝ }
     requires { ⌜ Calm b (now tab) a z × Calm c (now tab) a z ⌝ }
     requires { ⌜ b .mem + n ≤ c .mem ⌝ }
     ensures { λ _. ⌜ Span (fieldOf b c w (now (h .entry)) (now (tab .entry)) (now (mem .entry)) (now (scr .entry)) (now (poles .entry)) (now (e .entry)) n a z q) (now (e .entry)) q 0 n (now (e .exit)) ⌝ }
-    ensures { λ _. ⌜ Two (λ i. memOf b (now (tab .entry)) (now (mem .entry)) i (slopeOf b (now (h .entry)) n i)) (λ i. memOf c (now (tab .entry)) (now (mem .entry)) i (slopeOf c (now (h .entry)) n i)) (now (mem .entry)) (b .mem) (c .mem) a z (now (mem .exit)) ⌝ }
+    ensures { λ _. ⌜ Two (λ i. sideMemory b (now (tab .entry)) (now (mem .entry)) i (slopeOf b (now (h .entry)) n i)) (λ i. sideMemory c (now (tab .entry)) (now (mem .entry)) i (slopeOf c (now (h .entry)) n i)) (now (mem .entry)) (b .mem) (c .mem) a z (now (mem .exit)) ⌝ }
     ensures { λ _. ⌜ Top (now (scr .entry)) 1536 (now (scr .exit)) ⌝ }
 {
     curls(scr, h, n, a, z, b, c);

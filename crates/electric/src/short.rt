@@ -5,11 +5,11 @@ ghost use Prim.Native.Nat.{_+_, _*_, _≤_, _<_};
 ghost use lib.ListN.{length};
 ghost use Rattle.root.specs.Rounded.{_⊘_, zeroF};
 ghost use Rattle.fdtd.specs.Axes.{previousOf, walled};
-ghost use Rattle.fdtd.specs.Begun.{Known, Moved, Near};
-ghost use Rattle.fdtd.specs.Turns.{Fit, Laid};
-ghost use Rattle.electric.specs.Row.{dpOf, Held};
-ghost use Rattle.electric.specs.Celled.{ruleE, Moving};
-ghost use Rattle.electric.specs.Swept.{Swept, Carried};
+ghost use Rattle.fdtd.specs.Inner.Begun.{Known, StoredBy, Near};
+ghost use Rattle.fdtd.specs.Inner.Turns.{Fit, Laid};
+ghost use Rattle.electric.specs.Inner.Row.{dpOf, DpRoom};
+ghost use Rattle.electric.specs.Inner.Celled.{ruleE, Moving};
+ghost use Rattle.electric.specs.Inner.Swept.{Swept, Carried};
 use crate::row;
 use crate::row::Change;
 use crate::row::Weights;
@@ -52,7 +52,7 @@ fn component(
 )
     requires { ⌜ Near g (now h) (now mem) (now e) cell ds dt ⌝ }
     requires { ⌜ (none ≡ zeroF ⊘ w .dt) × (w .at + g .r .at + g .count ≤ length (now poles)) ⌝ }
-    ensures { λ _. ⌜ Moved (ruleE (now (h .entry)) w (now (poles .entry)) (f .ca) (f .cb)) g cell ds dt moves ks kt (now (e .entry)) (now (mem .entry)) (now (e .exit)) (now (mem .exit)) ⌝ }
+    ensures { λ _. ⌜ StoredBy (ruleE (now (h .entry)) w (now (poles .entry)) (f .ca) (f .cb)) g cell ds dt moves ks kt (now (e .entry)) (now (mem .entry)) (now (e .exit)) (now (mem .exit)) ⌝ }
 {
     let q = g.r.at + cell;
     if moves {
@@ -89,7 +89,7 @@ fn cell(
 )
     requires { ⌜ Fit g (now h) (now tab) (now mem) (now e) ⌝ }
     requires { ⌜ Laid g ⌝ }
-    requires { ⌜ Held g w (now poles) ⌝ }
+    requires { ⌜ DpRoom g w (now poles) ⌝ }
     requires { ⌜ Known g (now tab) s t (previousOf s (g .s .n)) (previousOf t (g .t .n)) (not (walled (g .s) s)) (not (walled (g .t) t)) v ⌝ }
     requires { ⌜ (i < g .r .n) × (g .count + g .count + g .count ≤ length (now media)) × (none ≡ zeroF ⊘ w .dt) ⌝ }
     ensures { λ _. ⌜ Moving eps0 w g (now (h .entry)) (now (media .entry)) (now (tab .entry)) (now (poles .entry)) s t i (now (e .entry)) (now (mem .entry)) (now (e .exit)) (now (mem .exit)) ⌝ }
@@ -128,7 +128,7 @@ fn cells_of_row(
 )
     requires { ⌜ Fit g (now h) (now tab) (now mem) (now e) ⌝ }
     requires { ⌜ Laid g ⌝ }
-    requires { ⌜ Held g w (now poles) ⌝ }
+    requires { ⌜ DpRoom g w (now poles) ⌝ }
     requires { ⌜ (s < g .s .n) × (t < g .t .n) × (g .count + g .count + g .count ≤ length (now media)) × (none ≡ zeroF ⊘ w .dt) ⌝ }
     ensures { λ _. ⌜ Carried eps0 w g (now (h .entry)) (now (media .entry)) (now (tab .entry)) (now (poles .entry)) s t (now (e .entry)) (now (mem .entry)) (now (e .exit)) (now (mem .exit)) ⌝ }
 {
@@ -158,7 +158,7 @@ pub fn sweep_cells(
 )
     requires { ⌜ Fit g (now h) (now tab) (now mem) (now e) ⌝ }
     requires { ⌜ Laid g ⌝ }
-    requires { ⌜ Held g w (now poles) ⌝ }
+    requires { ⌜ DpRoom g w (now poles) ⌝ }
     requires { ⌜ g .count + g .count + g .count ≤ length (now media) ⌝ }
     ensures { λ _. ⌜ Swept eps0 w g (now (h .entry)) (now (media .entry)) (now (tab .entry)) (now (poles .entry)) (now (e .entry)) (now (mem .entry)) (g .t .n * g .s .n) (now (e .exit)) (now (mem .exit)) ⌝ }
 {

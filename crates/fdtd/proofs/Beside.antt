@@ -11,8 +11,8 @@ use Rattle.fdtd.specs.declared.single.Shared.{Shared}
 use Rattle.fdtd.specs.declared.turns.Turn.{Turn}
 use Rattle.fdtd.specs.declared.turns.Spot.{Spot}
 use Rattle.fdtd.specs.Yee.{coefAt}
-use Rattle.fdtd.specs.Turns.{round, rowAt, spotOf, AtSpot, Fit, Laid, Made}
-use Rattle.fdtd.specs.Begun.{Rule, Moved, Near, sharedOf, Known, Doing}
+use Rattle.fdtd.specs.Inner.Turns.{round, rowAt, spotOf, AtSpot, Fit, Laid, NewNumbers}
+use Rattle.fdtd.specs.Inner.Begun.{Rule, StoredBy, Near, sharedOf, Known, Doing}
 use Rattle.fdtd.proofs.Singles.{Fair, cell-law}
 
 -- what a row shares
@@ -47,11 +47,11 @@ module _ {g : Turn} {source tab mem moved : List Float} {cell ns nt : ℕ} (fit 
   near-t e d = rw (d, e) near-twice
 
 moved-as : (v : Rule) (g g' : Turn) (x m : List Float) {x' m' : List Float} {cell cell' ns ns' nt nt' : ℕ} {go go' : Bool} {ks ks' kt kt' : Coef}
-    → Moved v g cell ns nt go ks kt x m x' m' → g ≡ g' → cell ≡ cell' → ns ≡ ns' → nt ≡ nt' → go ≡ go' → ks ≡ ks' → kt ≡ kt' → Moved v g' cell' ns' nt' go' ks' kt' x m x' m'
+    → StoredBy v g cell ns nt go ks kt x m x' m' → g ≡ g' → cell ≡ cell' → ns ≡ ns' → nt ≡ nt' → go ≡ go' → ks ≡ ks' → kt ≡ kt' → StoredBy v g' cell' ns' nt' go' ks' kt' x m x' m'
 moved-as v g g' x m w e a b c d p q = rw (← e, ← a, ← b, ← c, ← d, ← p, ← q) w
 
 -- what the rule makes of the number along A of the cell i of the row (s, t) is what is to be made
-abbrev pub FairBy : Rule → Turn → (A B C : Axis) → Made → (s t i nB nC : ℕ) → (go : Bool) → (kb kc : Coef) → (x₀ m₀ : List Float) → Type 0
+abbrev pub FairBy : Rule → Turn → (A B C : Axis) → NewNumbers → (s t i nB nC : ℕ) → (go : Bool) → (kb kc : Coef) → (x₀ m₀ : List Float) → Type 0
 FairBy v g A B C d s t i nB nC go kb kc x₀ m₀ =
     (x m : List Float) → Fair g A d s t i (v .field A B C (g .count) x m (rowAt g s t + i) nB nC go kb kc) (v .first A B C (g .count) m (rowAt g s t + i) nB nC go kb kc)
     (v .second A B C (g .count) m (rowAt g s t + i) nB nC go kb kc) x₀ m₀ x m
@@ -61,9 +61,9 @@ module _ (v : Rule) (g : Turn) (laid : Laid g) (tab : List Float) (s t bs bt i :
     (e1 : b1 ≡ (w .gos && w .got)) (e2 : b2 ≡ (w .got && gor)) (e3 : b3 ≡ (gor && w .gos)) (es : gs ≡ round g) (et : gt ≡ round gs)
     (f1 : (gos && got) ≡ go1) (f2 : (got && gor') ≡ go2) (f3 : (gor' && gos) ≡ go3)
     (x m x1 m1 x2 m2 x3 m3 : List Float)
-    (one : Moved v g (w .q + i) (w .bs + i) (w .bt + i) b1 (w .ks) (w .kt) x m x1 m1)
-    (two : Moved v gs (w .q + i) (w .bt + i) (w .q + nr) b2 (w .kt) kr x1 m1 x2 m2)
-    (three : Moved v gt (w .q + i) (w .q + nr) (w .bs + i) b3 kr (w .ks) x2 m2 x3 m3) where
+    (one : StoredBy v g (w .q + i) (w .bs + i) (w .bt + i) b1 (w .ks) (w .kt) x m x1 m1)
+    (two : StoredBy v gs (w .q + i) (w .bt + i) (w .q + nr) b2 (w .kt) kr x1 m1 x2 m2)
+    (three : StoredBy v gt (w .q + i) (w .q + nr) (w .bs + i) b3 kr (w .ks) x2 m2 x3 m3) where
   at-q : w .q + i ≡ rowAt g s t + i
   at-q = ap (λ (y : Shared). y .q + i) (known .is)
 
@@ -94,7 +94,7 @@ module _ (v : Rule) (g : Turn) (laid : Laid g) (tab : List Float) (s t bs bt i :
   fits : rowAt g s t + i < g .count
   fits = omega (arith, at-q, known .own)
 
-  pub cell-beside : {R S T : Made} (x₀ m₀ : List Float)
+  pub cell-beside : {R S T : NewNumbers} (x₀ m₀ : List Float)
       → FairBy v g (g .r) (g .s) (g .t) R s t i (rowAt g bs t + i) (rowAt g s bt + i) go1 (coefAt (g .s) tab s) (coefAt (g .t) tab t) x₀ m₀
       → FairBy v g (g .s) (g .t) (g .r) S s t i (rowAt g s bt + i) (rowAt g s t + nr') go2 (coefAt (g .t) tab t) kr' x₀ m₀
       → FairBy v g (g .t) (g .r) (g .s) T s t i (rowAt g s t + nr') (rowAt g bs t + i) go3 kr' (coefAt (g .s) tab s) x₀ m₀

@@ -13,11 +13,11 @@ use lib.Ieee.{Float}
 use Rattle.cells.specs.Cells.{cellIndex}
 use Rattle.cells.proofs.Pointwise.{cells-same}
 use Rattle.grid.specs.declared.Record.{Record}
-use Rattle.grid.specs.Sound.{Sound}
+use Rattle.grid.specs.Inner.Sound.{Sound}
 use Rattle.grid.specs.Stores.{cells}
 use Rattle.fdtd.specs.declared.turns.Turn.{Turn}
 use Rattle.fdtd.specs.Axes.{nextOf}
-use Rattle.fdtd.specs.Turns.{turnX, turnY, turnZ, turnFor, Fit, Laid}
+use Rattle.fdtd.specs.Inner.Turns.{turnX, turnY, turnZ, turnFor, Fit, Laid}
 
 module _ (r : Record) (from : ℕ) (low : from ≤ 3) (sound : Sound r) where
   tab-x : from * r .nx ≤ 3 * r .nx

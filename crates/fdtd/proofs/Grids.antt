@@ -17,7 +17,7 @@ use Rattle.grid.specs.Stores.{cells}
 use Rattle.fdtd.specs.declared.Axis.{Axis}
 use Rattle.fdtd.specs.declared.turns.Turn.{Turn}
 use Rattle.fdtd.specs.Axes.{byAxis, axis, turn, place}
-use Rattle.fdtd.specs.Turns.{rowAt, turnX, turnY, turnZ, Made, Comp, Done}
+use Rattle.fdtd.specs.Inner.Turns.{rowAt, turnX, turnY, turnZ, NewNumbers, Comp, Done}
 use Rattle.fdtd.proofs.Places.{row-number}
 use Rattle.fdtd.proofs.Fits.{placeX, placeY, placeZ}
 
@@ -47,7 +47,7 @@ module _ (r : Record) (from : ℕ) (near : (p n : ℕ) → ℕ) (near-less : (p 
   abbrev Each : ((i j k : ℕ) → Type 0) → Type 0
   Each P = (i j k : ℕ) → i < r .nx → j < r .ny → k < r .nz → P i j k
 
-  abbrev made : Turn → (A B C : Axis) → (onB onC nearB nearC : (s t i : ℕ) → ℕ) → Made
+  abbrev made : Turn → (A B C : Axis) → (onB onC nearB nearC : (s t i : ℕ) → ℕ) → NewNumbers
   made g A B C onB onC nearB nearC =
       record {
         field = λ s t i. F A B C (rowAt g s t + i) (onB s t i) (onC s t i) (nearB s t i) (nearC s t i);

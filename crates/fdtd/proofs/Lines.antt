@@ -8,8 +8,8 @@ use lib.ListN.{length, getD}
 use lib.Ieee.{Float, nan}
 use Rattle.fdtd.specs.declared.Axis.{Axis}
 use Rattle.fdtd.specs.declared.turns.Turn.{Turn}
-use Rattle.fdtd.specs.Span.{Span, Two}
-use Rattle.fdtd.specs.Turns.{rowAt, Fit, Apart, Laid, Made, Comp, Done}
+use Rattle.fdtd.specs.Inner.Span.{Span, Two}
+use Rattle.fdtd.specs.Inner.Turns.{rowAt, Fit, Apart, Laid, NewNumbers, Comp, Done}
 use Rattle.fdtd.proofs.Places.{row-in, row-number}
 use Rattle.fdtd.proofs.Parts.{part-start, part-keep, part-step}
 
@@ -19,7 +19,7 @@ Stored g A s t F G K x m x' m' =
     Span F x (A .at + rowAt g s t) 0 (g .r .n) x' × Two G K m (A .mem + rowAt g s t) (A .mem + g .count + rowAt g s t) 0 (g .r .n) m'
 
 -- F, G, K are what is to be made, if the cell's own numbers are still those of x₀ and m₀
-abbrev pub Right : Turn → Axis → Made → (s t : ℕ) → (F G K : ℕ → Float) → (x₀ m₀ x m : List Float) → Type 0
+abbrev pub Right : Turn → Axis → NewNumbers → (s t : ℕ) → (F G K : ℕ → Float) → (x₀ m₀ x m : List Float) → Type 0
 Right g A w s t F G K x₀ m₀ x m =
     (i : ℕ) → i < g .r .n
     → getD x (A .at + (rowAt g s t + i)) nan ≡ getD x₀ (A .at + (rowAt g s t + i)) nan
@@ -32,7 +32,7 @@ module _ (g : Turn) (laid : Laid g) (x₀ m₀ x m x' m' : List Float) (s t : �
   fits : rowAt g s t + g .r .n ≤ g .count
   fits = omega (arith, row-in (g .r .n) hs ht, laid .whole)
 
-  module _ (v : Made) (right : Right g A v s t F G K x₀ m₀ x m) (w : Comp g A v x₀ m₀ (s + t * g .s .n) x m) where
+  module _ (v : NewNumbers) (right : Right g A v s t F G K x₀ m₀ x m) (w : Comp g A v x₀ m₀ (s + t * g .s .n) x m) where
     made : (i : ℕ) → i < g .r .n → (F i ≡ v .field s t i) × (G i ≡ v .first s t i) × (K i ≡ v .second s t i)
     made i l =
         right i l (w .field .rest (A .at + (rowAt g s t + i)) (omega arith) (omega (arith, fits)))
@@ -57,7 +57,7 @@ module _ (g : Turn) (laid : Laid g) (x₀ m₀ x m x' m' : List Float) (s t : �
         }
 
   -- the row of this component leaves that of another
-  module _ (A' : Axis) (v' : Made) (r : ℕ) (few : r ≤ g .t .n * g .s .n) (w : Comp g A' v' x₀ m₀ r x m) where
+  module _ (A' : Axis) (v' : NewNumbers) (r : ℕ) (few : r ≤ g .t .n * g .s .n) (w : Comp g A' v' x₀ m₀ r x m) where
     same-x : Apart (g .count) A A' → (q : ℕ) → A' .at ≤ q → q < A' .at + g .count → getD x' q nan ≡ getD x q nan
     same-x p q a b = ⊎-elim (λ y. go .0 .over q (omega (arith, fits))) (λ y. go .0 .under q (omega arith)) p
 
@@ -76,7 +76,7 @@ pub apart-back : (count : ℕ) (A B : Axis) → Apart count A B → Apart count 
 apart-back count A B p = ⊎-elim (λ x. inr x) (λ x. inl x) p
 
 -- a row of all three
-module _ (g : Turn) (laid : Laid g) (R S T : Made) (x₀ m₀ x m x1 m1 x2 m2 x3 m3 : List Float) (s t : ℕ) (hs : s < g .s .n) (ht : t < g .t .n)
+module _ (g : Turn) (laid : Laid g) (R S T : NewNumbers) (x₀ m₀ x m x1 m1 x2 m2 x3 m3 : List Float) (s t : ℕ) (hs : s < g .s .n) (ht : t < g .t .n)
     (F1 G1 K1 F2 G2 K2 F3 G3 K3 : ℕ → Float)
     (one : Stored g (g .r) s t F1 G1 K1 x m x1 m1) (two : Stored g (g .s) s t F2 G2 K2 x1 m1 x2 m2) (three : Stored g (g .t) s t F3 G3 K3 x2 m2 x3 m3)
     (rr : Right g (g .r) R s t F1 G1 K1 x₀ m₀ x m) (rs : Right g (g .s) S s t F2 G2 K2 x₀ m₀ x1 m1) (rt : Right g (g .t) T s t F3 G3 K3 x₀ m₀ x2 m2)
@@ -104,7 +104,7 @@ module _ (g : Turn) (laid : Laid g) (R S T : Made) (x₀ m₀ x m x1 m1 x2 m2 x3
       }
 
 -- at the start, and the same number of rows
-pub done-start : (g : Turn) (R S T : Made) (x m : List Float) → Done g R S T x m 0 x m
+pub done-start : (g : Turn) (R S T : NewNumbers) (x m : List Float) → Done g R S T x m 0 x m
 done-start g R S T x m =
     record {
       len-x = refl;
@@ -114,7 +114,7 @@ done-start g R S T x m =
       alongT = record { field = part-start _ _ _ _ _ _; first = part-start _ _ _ _ _ _; second = part-start _ _ _ _ _ _ };
     }
 
-pub done-as : {g : Turn} {R S T : Made} {x₀ m₀ x m : List Float} {r r' : ℕ} → Done g R S T x₀ m₀ r x m → r ≡ r' → Done g R S T x₀ m₀ r' x m
+pub done-as : {g : Turn} {R S T : NewNumbers} {x₀ m₀ x m : List Float} {r r' : ℕ} → Done g R S T x₀ m₀ r x m → r ≡ r' → Done g R S T x₀ m₀ r' x m
 done-as {g} {R} {S} {T} {x₀} {m₀} {x} {m} w p = subst (λ (k : ℕ). Done g R S T x₀ m₀ k x m) p w
 
 pub fit-as : {g : Turn} {e tab m x : List Float} (m' x' : List Float) → Fit g e tab m x → length m' ≡ length m → length x' ≡ length x → Fit g e tab m' x'

@@ -10,7 +10,8 @@ use lib.Dec.{eqb}
 use lib.Ieee.{Float}
 use Rattle.codec.specs.Lists.{part}
 use Rattle.cells.specs.Cells.{cellwise, components}
-use Rattle.cells.proofs.Blocks.{length-cellwise, part-block}
+use Rattle.cells.specs.Reading.{length-cellwise}
+use Rattle.cells.proofs.Blocks.{part-block}
 use Rattle.grid.specs.declared.Record.{Record}
 use Rattle.grid.specs.Stores.{cells}
 use Rattle.cpml.specs.declared.Psi.{Psi}
@@ -24,8 +25,8 @@ abbrev pub isFirst : (a v : ℕ) → Bool
 isFirst a v = eqb v (turn a)
 
 -- the memory of the derivative along v of the component a after a half step, in one cell
-abbrev pub memoryAfter : Half → Record → (field tables mem : List Float) → (a v i j k : ℕ) → Float
-memoryAfter w r field tables mem a v i j k = cond (isFirst a v) (firstAfter w r field tables mem a i j k) (secondAfter w r field tables mem a i j k)
+abbrev pub namedAfter : Half → Record → (field tables mem : List Float) → (a v i j k : ℕ) → Float
+namedAfter w r field tables mem a v i j k = cond (isFirst a v) (firstAfter w r field tables mem a i j k) (secondAfter w r field tables mem a i j k)
 
 -- v is one of the two axes across a: the first is the next one round, the second the one after it
 pub two-derivatives : (which : Psi) → alongOf which ≡ cond (isFirst (componentOf which) (alongOf which)) (turn (componentOf which)) (turn (turn (componentOf which)))
@@ -57,10 +58,10 @@ module _ (w : Half) (r : Record) (field tables mem : List Float) where
 -- what the lookup gives of the stores after a step's two half steps: E moves by h, H by e
 module _ (r : Record) (e h tables psiE psiH : List Float) where
   abbrev ofE : (a v i j k : ℕ) → Float
-  ofE = memoryAfter halfE r h tables psiE
+  ofE = namedAfter halfE r h tables psiE
 
   abbrev ofH : (a v i j k : ℕ) → Float
-  ofH = memoryAfter halfH r e tables psiH
+  ofH = namedAfter halfH r e tables psiH
 
   abbrev LookedUp : Psi → Type 0
   LookedUp which =

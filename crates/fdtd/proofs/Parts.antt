@@ -1,5 +1,5 @@
 -- One component of a store while rows of several are filled in turn: a row more of it, and a store outside it. Assumes nothing.
-use mathlib.Core.Path.{_≡_, refl, _∙_, ap, subst}
+use mathlib.Core.Path.{_≡_, refl, _∙_, ap}
 use mathlib.Core.Logic.{⊎-elim}
 use mathlib.Core.List.{List}
 use Prim.Native.Nat.{ℕ, _+_, _*_, _≤_, _<_}
@@ -7,15 +7,12 @@ use native.Mathlib.Nat.{eq-or-lt-of-le, not-suc-le-zero}
 use native.Mathlib.Omega.{arith}
 use lib.ListN.{getD}
 use lib.Ieee.{Float, nan}
-use Rattle.fdtd.specs.Turns.{Part}
+use Rattle.fdtd.specs.Inner.Turns.{Part}
 use Rattle.fdtd.proofs.Places.{row-more, row-apart, row-one}
 
 module _ (nx ny count : ℕ) (f : ℕ → ℕ → ℕ → Float) (lo : ℕ) (old : List Float) where
   pub part-start : Part nx ny count f lo old 0 old
   part-start = record { at = λ j k i hi hj h. absurd (not-suc-le-zero h); rest = λ q h l. refl }
-
-  pub part-end : {new : List Float} {r s : ℕ} → Part nx ny count f lo old r new → r ≡ s → Part nx ny count f lo old s new
-  part-end {new} w e = subst (λ (k : ℕ). Part nx ny count f lo old k new) e w
 
   module _ (nz : ℕ) (whole : count ≡ nz * ny * nx) (new next : List Float) where
     -- nothing of this component was stored

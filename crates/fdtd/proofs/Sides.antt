@@ -1,5 +1,5 @@
 -- The layer of one side, put together from its parts. Assumes nothing.
-use mathlib.Core.Path.{_≡_, _∙_, sym, ap}
+use mathlib.Core.Path.{_≡_, refl, _∙_, sym, ap}
 use mathlib.Core.Bool.{Bool, true, false, cond}
 use mathlib.Core.List.{List}
 use Prim.Native.Nat.{ℕ, _+_, _≤_}
@@ -11,9 +11,9 @@ use Rattle.cpml.specs.declared.Advanced.{Advanced}
 use Rattle.fdtd.specs.declared.Coef.{Coef}
 use Rattle.fdtd.specs.declared.rows.Side.{Side}
 use Rattle.fdtd.specs.Yee.{memNext, joins, layered}
-use Rattle.fdtd.specs.Rows.{kOf, layerOf, memOf, Calm}
-use Rattle.fdtd.specs.Span.{Span}
-use Rattle.fdtd.proofs.Cellwise.{stands-still}
+use Rattle.fdtd.specs.Inner.Rows.{kOf, sideLayered, sideMemory, Calm}
+use Rattle.fdtd.specs.Inner.Span.{Span}
+use Rattle.fdtd.proofs.Cellwise.{stands-still, memory-quiet, memory-moves, memory-off}
 use Rattle.fdtd.proofs.Spans.{span-as, span-join, span-more}
 
 -- over variables: `rw` at s .on would rewrite s itself
@@ -25,41 +25,38 @@ layered-quiet : (on second : Bool) (k : Coef) (p d u : Float) → on ≡ true �
 layered-quiet on second k p d u e z =
     ap (λ (x : Advanced). joins second u (x .answer) ((oneF ⊖ k .kinv) ⊗ d)) (sym (stands-still (k .b) (k .c) p d z)) ∙ pick-on on _ u e
 
-next-quiet : (on : Bool) (k : Coef) (p d : Float) → on ≡ true → eq (k .c) zeroF ≡ true → p ≡ cond on (memNext k p d) p
-next-quiet on k p d e z = ap (λ (x : Advanced). x .memory) (sym (stands-still (k .b) (k .c) p d z)) ∙ pick-on on _ p e
-
 module _ (second : Bool) (s : Side) (tab mem : List Float) (i : ℕ) (d u : Float) where
-  pub lay-on : s .on ≡ true → layered second (kOf s tab i) (getD mem (s .mem + i) nan) d u ≡ layerOf second s tab mem i d u
-  unfolding layerOf
+  pub lay-on : s .on ≡ true → layered second (kOf s tab i) (getD mem (s .mem + i) nan) d u ≡ sideLayered second s tab mem i d u
+  unfolding sideLayered
   lay-on p = rw p
 
-  pub lay-quiet : s .on ≡ true → eq (kOf s tab i .c) zeroF ≡ true → joins second u zeroF ((oneF ⊖ kOf s tab i .kinv) ⊗ d) ≡ layerOf second s tab mem i d u
-  unfolding layerOf
+  pub lay-quiet : s .on ≡ true → eq (kOf s tab i .c) zeroF ≡ true → joins second u zeroF ((oneF ⊖ kOf s tab i .kinv) ⊗ d) ≡ sideLayered second s tab mem i d u
+  unfolding sideLayered
   lay-quiet p z = layered-quiet (s .on) second (kOf s tab i) _ d u p z
 
-  pub lay-off : s .on ≡ false → u ≡ layerOf second s tab mem i d u
-  unfolding layerOf
+  pub lay-off : s .on ≡ false → u ≡ sideLayered second s tab mem i d u
+  unfolding sideLayered
   lay-off p = rw p
 
-  pub lay-own : (mem' : List Float) {d' u' : Float} → getD mem' (s .mem + i) nan ≡ getD mem (s .mem + i) nan → d' ≡ d → u' ≡ u → layerOf second s tab mem' i d' u' ≡ layerOf second s tab mem i d u
-  unfolding layerOf
+  pub lay-own : (mem' : List Float) {d' u' : Float} → getD mem' (s .mem + i) nan ≡ getD mem (s .mem + i) nan → d' ≡ d → u' ≡ u → sideLayered second s tab mem' i d' u' ≡ sideLayered second s tab mem i d u
+  unfolding sideLayered
   lay-own mem' p ed eu = rw (p, ed, eu)
 
 module _ (s : Side) (tab mem : List Float) (i : ℕ) (d : Float) where
-  pub mem-on : s .on ≡ true → memNext (kOf s tab i) (getD mem (s .mem + i) nan) d ≡ memOf s tab mem i d
-  unfolding memOf
-  mem-on p = rw p
+  pub mem-on : s .on ≡ true → memNext (kOf s tab i) (getD mem (s .mem + i) nan) d ≡ sideMemory s tab mem i d
+  unfolding sideMemory
+  mem-on p = memory-moves (kOf s tab i) _ d true (s .on) refl p
 
-  pub mem-quiet : s .on ≡ true → eq (kOf s tab i .c) zeroF ≡ true → getD mem (s .mem + i) nan ≡ memOf s tab mem i d
-  unfolding memOf
-  mem-quiet p z = next-quiet (s .on) (kOf s tab i) _ d p z
+  pub mem-quiet : s .on ≡ true → eq (kOf s tab i .c) zeroF ≡ true → getD mem (s .mem + i) nan ≡ sideMemory s tab mem i d
+  unfolding sideMemory
+  mem-quiet p z = memory-quiet (kOf s tab i) _ d true (s .on) z
 
-  pub mem-off : s .on ≡ false → getD mem (s .mem + i) nan ≡ memOf s tab mem i d
-  unfolding memOf
-  mem-off p = rw p
+  pub mem-off : s .on ≡ false → getD mem (s .mem + i) nan ≡ sideMemory s tab mem i d
+  unfolding sideMemory
+  mem-off p = memory-off (kOf s tab i) _ d (s .on) p
 
-  pub mem-own : (mem' : List Float) {d' : Float} → getD mem' (s .mem + i) nan ≡ getD mem (s .mem + i) nan → d' ≡ d → memOf s tab mem' i d' ≡ memOf s tab mem i d
-  unfolding memOf
+  pub mem-own : (mem' : List Float) {d' : Float} → getD mem' (s .mem + i) nan ≡ getD mem (s .mem + i) nan → d' ≡ d → sideMemory s tab mem' i d' ≡ sideMemory s tab mem i d
+  unfolding sideMemory
   mem-own mem' p ed = rw (p, ed)
 
 -- the layer in three parts
@@ -70,10 +67,10 @@ module _ (second : Bool) (s : Side) (tab mem scr m1 m2 s1 s2 s3 : List Float) (o
     (y : Span (λ i. layered second (kOf s tab i) (getD m1 (s .mem + i) nan) (getD s2 (o + i) nan) (getD s2 (1024 + i) nan)) s2 1024 (s .hi) z s3)
     (ym : Span (λ i. memNext (kOf s tab i) (getD m1 (s .mem + i) nan) (getD s2 (o + i) nan)) m1 (s .mem) (s .hi) z m2) where
   lay : ℕ → Float
-  lay i = layerOf second s tab mem i (getD scr (o + i) nan) (getD scr (1024 + i) nan)
+  lay i = sideLayered second s tab mem i (getD scr (o + i) nan) (getD scr (1024 + i) nan)
 
   kept : ℕ → Float
-  kept i = memOf s tab mem i (getD scr (o + i) nan)
+  kept i = sideMemory s tab mem i (getD scr (o + i) nan)
 
   two : Span lay scr 1024 f (s .hi) s2
   unfolding lay
@@ -86,7 +83,7 @@ module _ (second : Bool) (s : Side) (tab mem scr m1 m2 s1 s2 s3 : List Float) (o
   two-mem =
       span-more _ _ _ _ (span-as _ _ _ _ am (λ i g h. mem-on s tab mem i _ on)) (calm .from) (calm .order) (λ i g h. mem-quiet s tab mem i _ on (calm .quiet i g h))
 
-  pub layer-scr : Span (λ i. layerOf second s tab mem i (getD scr (o + i) nan) (getD scr (1024 + i) nan)) scr 1024 f z s3
+  pub layer-scr : Span (λ i. sideLayered second s tab mem i (getD scr (o + i) nan) (getD scr (1024 + i) nan)) scr 1024 f z s3
   unfolding lay
   layer-scr =
       span-join _ _ _ _ two y (omega arith) (calm .upto)
@@ -94,7 +91,7 @@ module _ (second : Bool) (s : Side) (tab mem scr m1 m2 s1 s2 s3 : List Float) (o
       lay-on second s tab m1 i _ _ on
       ∙ lay-own second s tab mem i _ _ m1 (two-mem .over (s .mem + i) (omega arith)) (two .under (o + i) (omega arith)) (two .over (1024 + i) (omega arith)))
 
-  pub layer-mem : Span (λ i. memOf s tab mem i (getD scr (o + i) nan)) mem (s .mem) f z m2
+  pub layer-mem : Span (λ i. sideMemory s tab mem i (getD scr (o + i) nan)) mem (s .mem) f z m2
   unfolding kept
   layer-mem =
       span-join _ _ _ _ two-mem ym (omega arith) (calm .upto)

@@ -2,7 +2,7 @@
 -- Assumes nothing.
 use mathlib.Core.Path.{_≡_, refl, _∙_, ap, subst}
 use mathlib.Core.Logic.{⊎-elim}
-use mathlib.Core.Bool.{Bool, true, false, cond, _&&_}
+use mathlib.Core.Bool.{Bool, true, false}
 use mathlib.Core.List.{List}
 use Prim.Native.Nat.{ℕ, _+_, _*_, _≤_, _<_}
 use native.Mathlib.Nat.{add-assoc, eq-or-lt-of-le, not-suc-le-zero}
@@ -14,9 +14,11 @@ use Rattle.root.specs.Rounded.{_⊗_, _⊖_, oneF}
 use Rattle.fdtd.specs.declared.Axis.{Axis}
 use Rattle.fdtd.specs.declared.Coef.{Coef}
 use Rattle.fdtd.specs.declared.turns.Turn.{Turn}
-use Rattle.fdtd.specs.Yee.{memNext, told, joins, derivative, coefAt, curl, memoryB, memoryC}
-use Rattle.fdtd.specs.Turns.{rowAt, Apart, Laid, Made, Part, Comp, Done}
-use Rattle.fdtd.specs.Begun.{withLayer, remembered, curlOf, curlBy, firstBy, secondBy, Lone, Both, Stored, Begun, Going, Doing}
+use Rattle.fdtd.specs.Yee.{term, psiAdded, joins, derivative, coefAt, inLayer, memoryAfter, curl}
+use Rattle.fdtd.specs.Inner.Cell.{curlOn, firstOn, secondOn, curlBy, firstBy, secondBy}
+use Rattle.fdtd.specs.Inner.Turns.{rowAt, Apart, Laid, NewNumbers, Part, Comp, Done}
+use Rattle.fdtd.specs.Inner.Begun.{Lone, Both, Stored, Begun, Going, Doing}
+use Rattle.fdtd.proofs.Cellwise.{memory-stays}
 use Rattle.fdtd.proofs.Places.{row-more, row-apart, row-one}
 use Rattle.fdtd.proofs.Components.{b-own, c-own}
 use Rattle.fdtd.proofs.Lines.{apart-back}
@@ -57,33 +59,25 @@ both-as s a b = record { len = s .len; first = s .first ∙ a; second = s .secon
 
 -- a side's layer that is on, and one that is off
 module _ (on : Bool) (k : Coef) (m d : Float) where
-  pub layer-on : (second : Bool) (u : Float) {r t s : Float} → on ≡ true → r ≡ joins second u t s → t ≡ told k m d → s ≡ (oneF ⊖ k .kinv) ⊗ d → r ≡ withLayer second on k m d u
+  pub layer-on : (second : Bool) (u : Float) {r t s : Float} → on ≡ true → r ≡ joins second u t s → t ≡ psiAdded k m d → s ≡ (oneF ⊖ k .kinv) ⊗ d → r ≡ inLayer second (term on k m d) u
   layer-on second u o er et es = er ∙ rw (o, et, es)
 
-  pub layer-off : (second : Bool) (u : Float) → on ≡ false → u ≡ withLayer second on k m d u
+  pub layer-off : (second : Bool) (u : Float) → on ≡ false → u ≡ inLayer second (term on k m d) u
   layer-off second u o = rw o
-
-  pub memory-on : {r : Float} → on ≡ true → r ≡ memNext k m d → r ≡ remembered on k m d
-  memory-on o e = e ∙ rw o
-
-  pub memory-off : on ≡ false → m ≡ remembered on k m d
-  memory-off o = rw o
 
 -- both sides, one after the other
 module _ (bon con : Bool) (kb kc : Coef) (x y mb mc mc' : Float) where
-  pub curl-both : {u v : Float} → u ≡ withLayer false bon kb mb x (x ⊖ y) → v ≡ withLayer true con kc mc' y u → mc' ≡ mc → v ≡ curlOf bon con kb kc mb mc x y
+  pub curl-both : {u v : Float} → u ≡ inLayer false (term bon kb mb x) (x ⊖ y) → v ≡ inLayer true (term con kc mc' y) u → mc' ≡ mc → v ≡ curl (term bon kb mb x) (term con kc mc y)
+  unfolding curl
   curl-both eu ev em = ev ∙ rw (em, eu)
 
-pub memory-both : (on : Bool) (k : Coef) (y : Float) {v : Float} {old mid new : List Float} {p r : ℕ} → Lone v old p mid → Lone (remembered on k (getD mid r nan) y) mid r new
-    → p < r → Both v (remembered on k (getD old r nan) y) old p r new
-memory-both on k y {r = r} a b h = both-as (both-of a b h) refl (ap (λ (z : Float). remembered on k z y) (a .over r h))
+pub memory-both : (on : Bool) (k : Coef) (y : Float) {v : Float} {old mid new : List Float} {p r : ℕ} → Lone v old p mid → Lone (memoryAfter true (term on k (getD mid r nan) y)) mid r new
+    → p < r → Both v (memoryAfter true (term on k (getD old r nan) y)) old p r new
+memory-both on k y {r = r} a b h = both-as (both-of a b h) refl (ap (λ (z : Float). memoryAfter true (term on k z y)) (a .over r h))
 
 -- ---- what a cell takes is what the definition has there
-over-go : (go on : Bool) (x y : Float) → go ≡ true → cond on x y ≡ cond (go && on) x y
-over-go go on x y e = rw e
-
-over-stop : (go on : Bool) (x y : Float) → go ≡ false → y ≡ cond (go && on) x y
-over-stop go on x y e = rw e
+over-go : (go on : Bool) (k : Coef) (m d : Float) → go ≡ true → memoryAfter true (term on k m d) ≡ memoryAfter go (term on k m d)
+over-go go on k m d e = rw e
 
 module _ (A B C : Axis) (count : ℕ) (field mem : List Float) (cell loB hiB loC hiC : ℕ) where
   module _ (kb kc : Coef) where
@@ -95,19 +89,19 @@ module _ (A B C : Axis) (count : ℕ) (field mem : List Float) (cell loB hiB loC
 
     -- its number moves
     module _ {x y : Float} (ex : x ≡ derivative B C field loB hiB) (ey : y ≡ derivative C B field loC hiC) where
-      pub curl-taken : curlOf (B .on) (C .on) kb kc mb mc x y ≡ curlBy A B C count field mem cell loB hiB loC hiC kb kc
+      pub curl-taken : curl (term (B .on) kb mb x) (term (C .on) kc mc y) ≡ curlBy A B C count field mem cell loB hiB loC hiC kb kc
       unfolding curlBy
       curl-taken = rw (ex, ey)
 
-      first-taken : (go : Bool) → go ≡ true → remembered (B .on) kb mb x ≡ firstBy A B C count field mem cell loB hiB loC hiC kb kc go
+      first-taken : (go : Bool) → go ≡ true → memoryAfter true (term (B .on) kb mb x) ≡ firstBy A B C count field mem cell loB hiB loC hiC kb kc go
       unfolding firstBy
-      first-taken go g = rw ex (over-go go (B .on) _ _ g)
+      first-taken go g = rw ex (over-go go (B .on) _ _ _ g)
 
-      second-taken : (go : Bool) → go ≡ true → remembered (C .on) kc mc y ≡ secondBy A B C count field mem cell loB hiB loC hiC kb kc go
+      second-taken : (go : Bool) → go ≡ true → memoryAfter true (term (C .on) kc mc y) ≡ secondBy A B C count field mem cell loB hiB loC hiC kb kc go
       unfolding secondBy
-      second-taken go g = rw ey (over-go go (C .on) _ _ g)
+      second-taken go g = rw ey (over-go go (C .on) _ _ _ g)
 
-      pub memories-taken : (go : Bool) {mem' : List Float} → go ≡ true → Both (remembered (B .on) kb mb x) (remembered (C .on) kc mc y) mem (A .mem + cell) (A .mem + count + cell) mem'
+      pub memories-taken : (go : Bool) {mem' : List Float} → go ≡ true → Both (memoryAfter true (term (B .on) kb mb x)) (memoryAfter true (term (C .on) kc mc y)) mem (A .mem + cell) (A .mem + count + cell) mem'
           → Both (firstBy A B C count field mem cell loB hiB loC hiC kb kc go) (secondBy A B C count field mem cell loB hiB loC hiC kb kc go) mem (A .mem + cell) (A .mem + count + cell) mem'
       memories-taken go g b = both-as b (first-taken go g) (second-taken go g)
 
@@ -125,11 +119,11 @@ module _ (A B C : Axis) (count : ℕ) (field mem : List Float) (cell loB hiB loC
     -- it does not
     first-left : (go : Bool) → go ≡ false → mb ≡ firstBy A B C count field mem cell loB hiB loC hiC kb kc go
     unfolding firstBy
-    first-left go g = over-stop go (B .on) _ _ g
+    first-left go g = memory-stays _ _ _ go (B .on) g
 
     second-left : (go : Bool) → go ≡ false → mc ≡ secondBy A B C count field mem cell loB hiB loC hiC kb kc go
     unfolding secondBy
-    second-left go g = over-stop go (C .on) _ _ g
+    second-left go g = memory-stays _ _ _ go (C .on) g
 
     pub memories-left : (go : Bool) → go ≡ false
         → Both (firstBy A B C count field mem cell loB hiB loC hiC kb kc go) (secondBy A B C count field mem cell loB hiB loC hiC kb kc go) mem (A .mem + cell) (A .mem + count + cell) mem
@@ -137,23 +131,23 @@ module _ (A B C : Axis) (count : ℕ) (field mem : List Float) (cell loB hiB loC
 
   -- by the tables
   module _ (tab : List Float) (onB onC : ℕ) where
-    pub by-curl : curlBy A B C count field mem cell loB hiB loC hiC (coefAt B tab onB) (coefAt C tab onC) ≡ curl A B C count field tab mem cell onB onC loB hiB loC hiC
-    unfolding curlBy curl
+    pub by-curl : curlBy A B C count field mem cell loB hiB loC hiC (coefAt B tab onB) (coefAt C tab onC) ≡ curlOn A B C count field tab mem cell onB onC loB hiB loC hiC
+    unfolding curlBy curlOn
     by-curl = refl
 
-    by-first : (go : Bool) → firstBy A B C count field mem cell loB hiB loC hiC (coefAt B tab onB) (coefAt C tab onC) go ≡ memoryB A B C count field tab mem cell onB onC loB hiB loC hiC go
-    unfolding firstBy memoryB
+    by-first : (go : Bool) → firstBy A B C count field mem cell loB hiB loC hiC (coefAt B tab onB) (coefAt C tab onC) go ≡ firstOn A B C count field tab mem cell onB onC loB hiB loC hiC go
+    unfolding firstBy firstOn
     by-first go = refl
 
-    by-second : (go : Bool) → secondBy A B C count field mem cell loB hiB loC hiC (coefAt B tab onB) (coefAt C tab onC) go ≡ memoryC A B C count field tab mem cell onB onC loB hiB loC hiC go
-    unfolding secondBy memoryC
+    by-second : (go : Bool) → secondBy A B C count field mem cell loB hiB loC hiC (coefAt B tab onB) (coefAt C tab onC) go ≡ secondOn A B C count field tab mem cell onB onC loB hiB loC hiC go
+    unfolding secondBy secondOn
     by-second go = refl
 
 -- a cell's memories hang on the store by its own alone
 pub own-memories : (A B C : Axis) (count : ℕ) (field tab m m₀ : List Float) (q i onB onC loB hiB loC hiC : ℕ) (go : Bool)
     → getD m (A .mem + (q + i)) nan ≡ getD m₀ (A .mem + (q + i)) nan → getD m (A .mem + count + (q + i)) nan ≡ getD m₀ (A .mem + count + (q + i)) nan
-    → (firstBy A B C count field m (q + i) loB hiB loC hiC (coefAt B tab onB) (coefAt C tab onC) go ≡ memoryB A B C count field tab m₀ (q + i) onB onC loB hiB loC hiC go)
-    × (secondBy A B C count field m (q + i) loB hiB loC hiC (coefAt B tab onB) (coefAt C tab onC) go ≡ memoryC A B C count field tab m₀ (q + i) onB onC loB hiB loC hiC go)
+    → (firstBy A B C count field m (q + i) loB hiB loC hiC (coefAt B tab onB) (coefAt C tab onC) go ≡ firstOn A B C count field tab m₀ (q + i) onB onC loB hiB loC hiC go)
+    × (secondBy A B C count field m (q + i) loB hiB loC hiC (coefAt B tab onB) (coefAt C tab onC) go ≡ secondOn A B C count field tab m₀ (q + i) onB onC loB hiB loC hiC go)
 own-memories A B C count field tab m m₀ q i onB onC loB hiB loC hiC go b c = (
   by-first A B C count field m (q + i) loB hiB loC hiC tab onB onC go ∙ b-own A B C count field tab m q i onB onC loB hiB loC hiC m₀ b c go,
   by-second A B C count field m (q + i) loB hiB loC hiC tab onB onC go ∙ c-own A B C count field tab m q i onB onC loB hiB loC hiC m₀ b c go,
@@ -207,7 +201,7 @@ module _ (n s count : ℕ) (f : ℕ → ℕ → ℕ → Float) (lo : ℕ) (old :
 
 -- ---- the number along one axis and its memories
 -- what a cell stored is what is to be made, if its own numbers are still those of x₀ and m₀
-abbrev pub Fair : Turn → Axis → Made → (s t i : ℕ) → (u v w : Float) → (x₀ m₀ x m : List Float) → Type 0
+abbrev pub Fair : Turn → Axis → NewNumbers → (s t i : ℕ) → (u v w : Float) → (x₀ m₀ x m : List Float) → Type 0
 Fair g A d s t i u v w x₀ m₀ x m =
     getD x (A .at + (rowAt g s t + i)) nan ≡ getD x₀ (A .at + (rowAt g s t + i)) nan
     → getD m (A .mem + (rowAt g s t + i)) nan ≡ getD m₀ (A .mem + (rowAt g s t + i)) nan
@@ -216,7 +210,7 @@ Fair g A d s t i u v w x₀ m₀ x m =
 
 module _ (g : Turn) (x₀ m₀ x m x' m' : List Float) (s t i : ℕ) (fits : rowAt g s t + i < g .count) (A : Axis) (u v w : Float)
     (go : Stored A (g .count) (rowAt g s t + i) u v w x m x' m') where
-  module _ (d : Made) (fair : Fair g A d s t i u v w x₀ m₀ x m) (c : Going g A d x₀ m₀ s t i x m) where
+  module _ (d : NewNumbers) (fair : Fair g A d s t i u v w x₀ m₀ x m) (c : Going g A d x₀ m₀ s t i x m) where
     made : (u ≡ d .field s t i) × (v ≡ d .first s t i) × (w ≡ d .second s t i)
     made =
         fair (c .field .rest (A .at + (rowAt g s t + i)) (omega arith) (omega arith))
@@ -232,7 +226,7 @@ module _ (g : Turn) (x₀ m₀ x m x' m' : List Float) (s t i : ℕ) (fits : row
         }
 
   -- the cell of this component leaves that of another
-  module _ (A' : Axis) (d' : Made) (k : ℕ) (few : rowAt g s t + k ≤ g .count) (c : Going g A' d' x₀ m₀ s t k x m) where
+  module _ (A' : Axis) (d' : NewNumbers) (k : ℕ) (few : rowAt g s t + k ≤ g .count) (c : Going g A' d' x₀ m₀ s t k x m) where
     same-x : Apart (g .count) A A' → (q : ℕ) → A' .at ≤ q → q < A' .at + g .count → getD x' q nan ≡ getD x q nan
     same-x p q a b = ⊎-elim (λ y. go .0 .over q (omega arith)) (λ y. go .0 .under q (omega arith)) p
 
@@ -248,7 +242,7 @@ module _ (g : Turn) (x₀ m₀ x m x' m' : List Float) (s t i : ℕ) (fits : row
         }
 
 -- ---- all three
-module _ (g : Turn) (laid : Laid g) (R S T : Made) (x₀ m₀ x m x1 m1 x2 m2 x3 m3 : List Float) (s t i : ℕ) (fits : rowAt g s t + i < g .count)
+module _ (g : Turn) (laid : Laid g) (R S T : NewNumbers) (x₀ m₀ x m x1 m1 x2 m2 x3 m3 : List Float) (s t i : ℕ) (fits : rowAt g s t + i < g .count)
     (u1 v1 w1 u2 v2 w2 u3 v3 w3 : Float)
     (one : Stored (g .r) (g .count) (rowAt g s t + i) u1 v1 w1 x m x1 m1) (two : Stored (g .s) (g .count) (rowAt g s t + i) u2 v2 w2 x1 m1 x2 m2)
     (three : Stored (g .t) (g .count) (rowAt g s t + i) u3 v3 w3 x2 m2 x3 m3)
@@ -277,15 +271,15 @@ module _ (g : Turn) (laid : Laid g) (R S T : Made) (x₀ m₀ x m x1 m1 x2 m2 x3
       }
 
 -- from the rows before to the row's first cell, and from its last to the rows with it
-going-start : (g : Turn) (A : Axis) (d : Made) (x₀ m₀ x m : List Float) (s t : ℕ) → Comp g A d x₀ m₀ (s + t * g .s .n) x m → Going g A d x₀ m₀ s t 0 x m
+going-start : (g : Turn) (A : Axis) (d : NewNumbers) (x₀ m₀ x m : List Float) (s t : ℕ) → Comp g A d x₀ m₀ (s + t * g .s .n) x m → Going g A d x₀ m₀ s t 0 x m
 going-start g A d x₀ m₀ x m s t w =
     record { field = begun-start _ _ _ _ _ _ s t (w .field); first = begun-start _ _ _ _ _ _ s t (w .first); second = begun-start _ _ _ _ _ _ s t (w .second) }
 
-going-end : (g : Turn) (A : Axis) (d : Made) (x₀ m₀ x m : List Float) (s t : ℕ) → s < g .s .n → Going g A d x₀ m₀ s t (g .r .n) x m → Comp g A d x₀ m₀ (s + 1 + t * g .s .n) x m
+going-end : (g : Turn) (A : Axis) (d : NewNumbers) (x₀ m₀ x m : List Float) (s t : ℕ) → s < g .s .n → Going g A d x₀ m₀ s t (g .r .n) x m → Comp g A d x₀ m₀ (s + 1 + t * g .s .n) x m
 going-end g A d x₀ m₀ x m s t h w =
     record { field = begun-end _ _ _ _ _ _ s t x h (w .field); first = begun-end _ _ _ _ _ _ s t m h (w .first); second = begun-end _ _ _ _ _ _ s t m h (w .second) }
 
-module _ {g : Turn} {R S T : Made} {x₀ m₀ x m : List Float} (s t : ℕ) where
+module _ {g : Turn} {R S T : NewNumbers} {x₀ m₀ x m : List Float} (s t : ℕ) where
   pub doing-start : Done g R S T x₀ m₀ (s + t * g .s .n) x m → Doing g R S T x₀ m₀ s t 0 x m
   doing-start w =
       record {

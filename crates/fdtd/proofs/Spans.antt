@@ -11,7 +11,7 @@ use lib.Dec.{ltb}
 use lib.ListN.{length, getD, set, length-set}
 use lib.Seq.{getD-set-same, getD-set-other}
 use lib.Ieee.{Float, nan}
-use Rattle.fdtd.specs.Span.{Span}
+use Rattle.fdtd.specs.Inner.Span.{Span}
 
 side-of : (b : Bool) (i y : ℕ) → ltb i y ≡ b → (i < y) ⊎ (y ≤ i)
 side-of true i y e = inl (ltb-true i y e)

@@ -9,7 +9,7 @@ use lib.Seq.{getD-set-same, getD-set-other}
 use lib.Ieee.{Float, nan}
 use Rattle.root.specs.Rounded.{_⊖_}
 use Rattle.fdtd.specs.Yee.{slope}
-use Rattle.fdtd.specs.Span.{Put, Trio}
+use Rattle.fdtd.specs.Inner.Span.{Put, Trio}
 
 pub put-law : (old : List Float) (i : ℕ) (x y z : Float) → i < 512 → 1536 ≤ length old → z ≡ x ⊖ y → Put x y i old (set (set (set old i x) (512 + i) y) (1024 + i) z)
 put-law old i x y z h l e =

@@ -1,4 +1,8 @@
--- The three axes of a study by number, 0 x, 1 y, 2 z, so that each formula is said once for all of them. Definitions only.
+-- The three axes of a study by number, 0 x, 1 y, 2 z, so that each formula is said once for all of them. An `Axis` (src/lib.rt):
+--   n cells of size d; wraps: it is periodic, else it ends in perfectly conducting walls; on: the layer is active along it (`active` of the record);
+--   at: where the component along it begins in E or H; mem: where that component's two memories begin in psiE or psiH;
+--   tab: where its own 1/κ, b and c begin in the tables.
+-- Definitions only.
 use Prim.Native.Nat.{ℕ, zero, suc, _+_, _-_, _*_}
 use mathlib.Core.Bool.{Bool, true, false, not, cond, _&&_, _||_}
 use lib.Dec.{ltb, eqb}
@@ -49,7 +53,7 @@ axisZ r from =
 abbrev pub axis : Record → (from : ℕ) → ℕ → Axis
 axis r from = byAxis (axisX r from) (axisY r from) (axisZ r from)
 
--- the place after the one at p of n, and the place before it, round the ends
+-- the place after the one at p of n, and the place before it, round the ends; where the axis does not wrap a number that would reach round is not updated
 abbrev pub nextOf : (p n : ℕ) → ℕ
 nextOf p n = cond (ltb (p + 1) n) (p + 1) 0
 
@@ -58,7 +62,7 @@ previousOf p n = cond (eqb p 0) (n - 1) (p - 1)
 
 -- whether there is a cell after the one at p: an axis that wraps always has one
 abbrev pub hasNext : Axis → ℕ → Bool
-hasNext w p = cond (ltb (p + 1) (w .n)) true (w .wraps)
+hasNext w p = ltb (p + 1) (w .n) || w .wraps
 
 -- whether p lies on one of the axis's two walls: an axis that wraps has none
 abbrev pub walled : Axis → ℕ → Bool
@@ -68,12 +72,12 @@ walled w p = not (w .wraps) && (eqb p 0 || eqb p (w .n - 1))
 abbrev pub place : ℕ → (i j k : ℕ) → ℕ
 place a i j k = byAxis i j k a
 
-abbrev pub after : Record → ℕ → (i j k : ℕ) → ℕ
-after r a i j k =
+abbrev pub nextCell : Record → ℕ → (i j k : ℕ) → ℕ
+nextCell r a i j k =
     byAxis (cellIndex (r .nx) (r .ny) (nextOf i (r .nx)) j k) (cellIndex (r .nx) (r .ny) i (nextOf j (r .ny)) k)
     (cellIndex (r .nx) (r .ny) i j (nextOf k (r .nz))) a
 
-abbrev pub before : Record → ℕ → (i j k : ℕ) → ℕ
-before r a i j k =
+abbrev pub previousCell : Record → ℕ → (i j k : ℕ) → ℕ
+previousCell r a i j k =
     byAxis (cellIndex (r .nx) (r .ny) (previousOf i (r .nx)) j k) (cellIndex (r .nx) (r .ny) i (previousOf j (r .ny)) k)
     (cellIndex (r .nx) (r .ny) i j (previousOf k (r .nz))) a

@@ -1,75 +1,68 @@
--- The two half steps, each store as a list of its cells' numbers (fdtd.rs, `update_h_field` and `update_e_field`). A new number hangs on the other field, on
--- its own old number and on its own memories alone, so that no order of cells is in it. Definitions only.
+-- The two half steps, each store as a list of its cells' numbers (fdtd.rs, `update_h_field` and `update_e_field`). No new number depends on a new number
+-- of another cell of its own field or memories, so that no order of cells is in it. The ψ that joins a curl is the new one, worked out there from the old. Definitions only.
 use Prim.Native.Nat.{ℕ, _+_, _/_, _%_}
 use mathlib.Core.Bool.{Bool, cond}
 use mathlib.Core.List.{List}
 use lib.Dec.{eqb}
-use lib.Ieee.{Float}
+use lib.ListN.{getD}
+use lib.Ieee.{Float, nan}
 use Rattle.cells.specs.Cells.{cellIndex, components}
 use Rattle.grid.specs.declared.Record.{Record}
 use Rattle.grid.specs.Stores.{numberAt, cells}
 use Rattle.fdtd.specs.declared.Axis.{Axis}
-use Rattle.fdtd.specs.Axes.{axis, turn, place, after, before}
-use Rattle.fdtd.specs.Yee.{curl, memoryB, memoryC, factor, movesH, magnetic, ca, cb, movesE, electric}
+use Rattle.fdtd.specs.Axes.{axis, turn, place, nextCell, previousCell}
+use Rattle.fdtd.specs.Yee.{Term, term, derivative, coefAt, curl, memoryAfter, factor, movesH, updatedH, ca, cb, movesE, updatedE}
 
 abbrev cellOf : Record → (i j k : ℕ) → ℕ
 cellOf r i j k = cellIndex (r .nx) (r .ny) i j k
 
--- what sets the half steps apart: where an axis's tables begin, between which cells a difference along an axis is taken, which numbers move
+-- what sets the half steps apart: at which of an axis's six tables theirs begin, between which cells a difference along an axis is taken, which
+-- numbers are updated (an H number that is not stays, an E number that is not is +0.0)
 pub record Half : Type 0 where
   pub from : ℕ
   pub lo : Record → (axis i j k : ℕ) → ℕ
   pub hi : Record → (axis i j k : ℕ) → ℕ
-  pub moves : (B C : Axis) → (onB onC : ℕ) → Bool
+  pub moves : (B C : Axis) → (pB pC : ℕ) → Bool
 
 -- the magnetic one: from a cell to the one after
 abbrev pub halfH : Half
-halfH = record { from = 3; lo = λ r a. cellOf r; hi = after; moves = movesH }
+halfH = record { from = 3; lo = λ r a i j k. cellOf r i j k; hi = nextCell; moves = movesH }
 
 -- the electric one: from the cell before to the cell
 abbrev pub halfE : Half
-halfE = record { from = 0; lo = before; hi = λ r a. cellOf r; moves = movesE }
+halfE = record { from = 0; lo = previousCell; hi = λ r a i j k. cellOf r i j k; moves = movesE }
 
 -- of the component along a of the cell (i, j, k), by the other field, the tables and the memories
 module _ (w : Half) (r : Record) (field tables mem : List Float) (a i j k : ℕ) where
-  abbrev A : Axis
-  A = axis r (w .from) a
+  abbrev axisOf : ℕ → Axis
+  axisOf v = axis r (w .from) v
 
-  abbrev B : Axis
-  B = axis r (w .from) (turn a)
-
-  abbrev C : Axis
-  C = axis r (w .from) (turn (turn a))
-
-  abbrev onB : ℕ
-  onB = place (turn a) i j k
-
-  abbrev onC : ℕ
-  onC = place (turn (turn a)) i j k
-
-  abbrev loB : ℕ
-  loB = w .lo r (turn a) i j k
-
-  abbrev hiB : ℕ
-  hiB = w .hi r (turn a) i j k
-
-  abbrev loC : ℕ
-  loC = w .lo r (turn (turn a)) i j k
-
-  abbrev hiC : ℕ
-  hiC = w .hi r (turn (turn a)) i j k
-
+  -- whether it moves
   unfoldable pub movesAt : Bool
-  movesAt = w .moves B C onB onC
+  movesAt = w .moves (axisOf (turn a)) (axisOf (turn (turn a))) (place (turn a) i j k) (place (turn (turn a)) i j k)
+
+  -- a term of its curl: the derivative along b of the number along c, whose memory stands at `at`
+  abbrev termAt : (b c at : ℕ) → Term
+  termAt b c at =
+      term (axisOf b .on) (coefAt (axisOf b) tables (place b i j k)) (getD mem at nan)
+      (derivative (axisOf b) (axisOf c) field (w .lo r b i j k) (w .hi r b i j k))
+
+  -- the curl's first term, ∂F_C/∂B, and its second, ∂F_B/∂C
+  abbrev pub firstTerm : Term
+  firstTerm = termAt (turn a) (turn (turn a)) (axisOf a .mem + cellOf r i j k)
+
+  abbrev pub secondTerm : Term
+  secondTerm = termAt (turn (turn a)) (turn a) (axisOf a .mem + cells r + cellOf r i j k)
 
   unfoldable pub curlAt : Float
-  curlAt = curl A B C (cells r) field tables mem (cellOf r i j k) onB onC loB hiB loC hiC
+  curlAt = curl firstTerm secondTerm
 
+  -- their memories after the half step
   unfoldable pub firstAfter : Float
-  firstAfter = memoryB A B C (cells r) field tables mem (cellOf r i j k) onB onC loB hiB loC hiC movesAt
+  firstAfter = memoryAfter movesAt firstTerm
 
   unfoldable pub secondAfter : Float
-  secondAfter = memoryC A B C (cells r) field tables mem (cellOf r i j k) onB onC loB hiB loC hiC movesAt
+  secondAfter = memoryAfter movesAt secondTerm
 
 -- the six memories after a half step: number 2a is that of a's first derivative, 2a + 1 that of its second
 unfoldable pub psiAfter : Half → Record → (field tables mem : List Float) → List Float
@@ -81,7 +74,7 @@ psiAfter w r field tables mem =
 -- the magnetic store after its half step
 unfoldable pub magneticAt : (mu0 : Float) → Record → (electric media tables psiH magnetic : List Float) → (a i j k : ℕ) → Float
 magneticAt mu0 r e media tables psi h a i j k =
-    magnetic (movesAt halfH r e tables psi a i j k)
+    updatedH (movesAt halfH r e tables psi a i j k)
     (factor (r .spacings .dt) mu0 (numberAt media (cells r) 1 (cellOf r i j k)))
     (curlAt halfH r e tables psi a i j k)
     (numberAt h (cells r) a (cellOf r i j k))
@@ -97,7 +90,7 @@ electricAt eps0 r h media tables dp psi e a i j k =
     let cell = cellOf r i j k in
     let epsR = numberAt media (cells r) 0 cell in
     let sigma = numberAt media (cells r) 2 cell in
-    electric (movesAt halfE r h tables psi a i j k) (ca eps0 dt epsR sigma) (cb eps0 dt epsR sigma) dt (dp a cell)
+    updatedE (movesAt halfE r h tables psi a i j k) (ca eps0 dt epsR sigma) (cb eps0 dt epsR sigma) dt (dp a cell)
     (curlAt halfE r h tables psi a i j k)
     (numberAt e (cells r) a cell)
 

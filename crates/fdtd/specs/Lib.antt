@@ -2,7 +2,5 @@
 pub mod Axes
 pub mod Yee
 pub mod Halves
-pub mod Span
-pub mod Rows
-pub mod Turns
-pub mod Begun
+pub mod Letters
+pub mod Inner

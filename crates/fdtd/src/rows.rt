@@ -7,8 +7,8 @@ ghost use lib.ListN.{length, getD};
 ghost use lib.Ieee.{nan};
 ghost use Rattle.root.specs.Rounded.{_⊖_, _⊗_, zeroF, oneF};
 ghost use Rattle.fdtd.specs.Yee.{slope, memNext, joins, layered};
-ghost use Rattle.fdtd.specs.Span.{Span, Trio, Put};
-ghost use Rattle.fdtd.specs.Rows.{kOf, layerOf, memOf, Calm};
+ghost use Rattle.fdtd.specs.Inner.Span.{Span, Trio, Put};
+ghost use Rattle.fdtd.specs.Inner.Rows.{kOf, sideLayered, sideMemory, Calm};
 use crate::Coef;
 use cpml::memory;
 
@@ -177,8 +177,8 @@ pub fn layer(
     requires { ⌜ (z ≤ 512) × (o ≤ 512) × (1536 ≤ length (now scr)) ⌝ }
     requires { ⌜ s .tab + s .len + s .len + z ≤ length (now tab) ⌝ }
     requires { ⌜ s .mem + z ≤ length (now mem) ⌝ }
-    ensures { λ _. ⌜ Span (λ i. layerOf second s (now (tab .entry)) (now (mem .entry)) i (getD (now (scr .entry)) (o + i) nan) (getD (now (scr .entry)) (1024 + i) nan)) (now (scr .entry)) 1024 a z (now (scr .exit)) ⌝ }
-    ensures { λ _. ⌜ Span (λ i. memOf s (now (tab .entry)) (now (mem .entry)) i (getD (now (scr .entry)) (o + i) nan)) (now (mem .entry)) (s .mem) a z (now (mem .exit)) ⌝ }
+    ensures { λ _. ⌜ Span (λ i. sideLayered second s (now (tab .entry)) (now (mem .entry)) i (getD (now (scr .entry)) (o + i) nan) (getD (now (scr .entry)) (1024 + i) nan)) (now (scr .entry)) 1024 a z (now (scr .exit)) ⌝ }
+    ensures { λ _. ⌜ Span (λ i. sideMemory s (now (tab .entry)) (now (mem .entry)) i (getD (now (scr .entry)) (o + i) nan)) (now (mem .entry)) (s .mem) a z (now (mem .exit)) ⌝ }
 {
     if s.on {
         live(scr, mem, tab, o, a, s.lo, second, s);

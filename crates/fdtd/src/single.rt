@@ -4,8 +4,9 @@ ghost use mathlib.Core.Bool.{true, _&&_};
 ghost use Prim.Native.Nat.{_+_, _*_, _≤_, _<_};
 ghost use lib.ListN.{length, getD};
 ghost use lib.Ieee.{nan};
-ghost use Rattle.fdtd.specs.Yee.{slope, coefAt};
-ghost use Rattle.fdtd.specs.Begun.{withLayer, remembered, curlOf, curlBy, firstBy, secondBy, Lone, Both, Known};
+ghost use Rattle.fdtd.specs.Yee.{term, slope, coefAt, inLayer, memoryAfter, curl};
+ghost use Rattle.fdtd.specs.Inner.Cell.{curlBy, firstBy, secondBy};
+ghost use Rattle.fdtd.specs.Inner.Begun.{Lone, Both, Known};
 use crate::Axis;
 use crate::Coef;
 use crate::rows;
@@ -59,8 +60,8 @@ fn join_layer(
     curl: f64,
 ) -> f64
     requires { ⌜ p < length (now mem) ⌝ }
-    ensures { λ r. ⌜ r ≡ withLayer second on k (getD (now (mem .entry)) p nan) deriv curl ⌝ }
-    ensures { λ _. ⌜ Lone (remembered on k (getD (now (mem .entry)) p nan) deriv) (now (mem .entry)) p (now (mem .exit)) ⌝ }
+    ensures { λ r. ⌜ r ≡ inLayer second (term on k (getD (now (mem .entry)) p nan) deriv) curl ⌝ }
+    ensures { λ _. ⌜ Lone (memoryAfter true (term on k (getD (now (mem .entry)) p nan) deriv)) (now (mem .entry)) p (now (mem .exit)) ⌝ }
 {
     if on {
         let moved = memory::advance(k.b, k.c, mem[p], deriv);
@@ -85,8 +86,8 @@ fn curl_of(
     kc: Coef,
 ) -> f64
     requires { ⌜ (m1 < m2) × (m2 < length (now mem)) ⌝ }
-    ensures { λ r. ⌜ r ≡ curlOf bon con kb kc (getD (now (mem .entry)) m1 nan) (getD (now (mem .entry)) m2 nan) x y ⌝ }
-    ensures { λ _. ⌜ Both (remembered bon kb (getD (now (mem .entry)) m1 nan) x) (remembered con kc (getD (now (mem .entry)) m2 nan) y) (now (mem .entry)) m1 m2 (now (mem .exit)) ⌝ }
+    ensures { λ r. ⌜ r ≡ curl (term bon kb (getD (now (mem .entry)) m1 nan) x) (term con kc (getD (now (mem .entry)) m2 nan) y) ⌝ }
+    ensures { λ _. ⌜ Both (memoryAfter true (term bon kb (getD (now (mem .entry)) m1 nan) x)) (memoryAfter true (term con kc (getD (now (mem .entry)) m2 nan) y)) (now (mem .entry)) m1 m2 (now (mem .exit)) ⌝ }
 {
     let u = join_layer(mem, m1, false, bon, kb, x, x - y);
     join_layer(mem, m2, true, con, kc, y, u)

@@ -5,10 +5,10 @@ ghost use Prim.Native.Nat.{_+_, _*_, _≤_, _<_};
 ghost use lib.ListN.{length};
 ghost use lib.Ieee.{eq};
 ghost use Rattle.root.specs.Rounded.{zeroF};
-ghost use Rattle.grid.specs.Sound.{Sound};
+ghost use Rattle.grid.specs.Inner.Sound.{Sound};
 ghost use Rattle.grid.specs.Stores.{cells};
 ghost use Rattle.fdtd.specs.Axes.{axisX, axisY, axisZ, nextOf, hasNext};
-ghost use Rattle.fdtd.specs.Turns.{turnFor, round, acrossOf, alongOf, rowAt, AtSpot, Zeros, Lull};
+ghost use Rattle.fdtd.specs.Inner.Turns.{turnFor, round, sideAcross, sideAlong, rowAt, AtSpot, Zeros, Lull};
 use crate::Axis;
 use crate::Coef;
 use crate::rows;
@@ -179,7 +179,7 @@ pub fn across(
     mem: usize,
 ) -> Side
     requires { ⌜ (w .tab + w .n + w .n + w .n ≤ length (now tab)) × (p < w .n) ⌝ }
-    ensures { λ r. ⌜ r ≡ acrossOf w (now (tab .entry)) p a z own other mem ⌝ }
+    ensures { λ r. ⌜ r ≡ sideAcross w (now (tab .entry)) p a z own other mem ⌝ }
 {
     let kinv = rows::at(tab, w.tab, p);
     let b = rows::at(tab, w.tab + w.n, p);
@@ -201,7 +201,7 @@ pub fn across(
 }
 
 pub fn along(w: Axis, run: Run, own: usize, mem: usize) -> Side
-    ensures { λ r. ⌜ r ≡ alongOf w run own mem ⌝ }
+    ensures { λ r. ⌜ r ≡ sideAlong w run own mem ⌝ }
 {
     Side {
         along: true,

@@ -12,11 +12,11 @@ use lib.Ieee.{Float, nan}
 use borrow.Author.Tests.{eqb-true, ltb-true}
 use Rattle.root.specs.Rounded.{_⊕_, summed}
 use Rattle.grid.specs.declared.Record.{Record}
-use Rattle.grid.specs.Sound.{Sound}
+use Rattle.grid.specs.Inner.Sound.{Sound}
 use Rattle.grid.specs.Stores.{cells, storeLengths, numberAt}
 use Rattle.grid.proofs.Tests.{and-left, and-right, first-none, or-none}
 use Rattle.grid.proofs.Settled.{lent-none}
-use Rattle.cells.proofs.Blocks.{block-end}
+use Rattle.cells.specs.Reading.{block-end}
 use Rattle.fields.specs.Fields.{energyFault, planeFault}
 
 pub first-place : (s : List Float) (n m : ℕ) → getD s m nan ≡ numberAt s n 0 m

@@ -1,23 +1,24 @@
 -- Bytes without fault: the study that they say has none either, and writes them again. Assumes nothing.
 use Prim.Native.Nat.{ℕ, _+_, _*_, _^_, _≤_, _<_}
 use native.Mathlib.Omega.{arith}
-use mathlib.Core.Path.{_≡_, sym, ap, _∙_, subst}
-use mathlib.Core.Bool.{Bool, true, false, cond}
+use mathlib.Core.Path.{_≡_, sym, ap, _∙_}
+use mathlib.Core.Bool.{Bool, true, cond}
 use mathlib.Core.List.{List}
 use borrow.Author.Tests.{eqb-true, lt-ltb}
-use lib.Dec.{T, ltb, eqb}
+use lib.Dec.{T, eqb}
 use lib.ListN.{length, getD, take, drop, length-drop}
 use lib.Seq.{length-take-le}
 use lib.Ieee.{binary64, ofBits}
 use Rattle.codec.specs.Lists.{part}
-use Rattle.codec.specs.Bytes.{bytesFit, enc, nums, total, floatsBytes, floatsOf, floatsFit, allFine, idsBytes, idsOf}
+use Rattle.codec.specs.Bytes.{bytesFit, enc, total, floatsBytes, floatsOf, floatsFit, allFine, idsBytes, idsOf}
 use Rattle.codec.proofs.Lists.{part-take, every-drop}
-use Rattle.codec.proofs.Row.{enc-nums, nums-fit, fit-at}
+use Rattle.codec.proofs.Row.{enc-nums, nums-fit, fit-at, length-nums}
 use Rattle.codec.proofs.Elements.{length-elementsOf}
 use Rattle.codec.proofs.Back.{floats-bytes, floats-fit, ids-bytes, ids-fit}
 use Rattle.dispersion.specs.declared.DispersiveMaterial.{DispersiveMaterial}
 use Rattle.dispersion.specs.Material.{vacuumMaterial}
-use Rattle.cells.proofs.Blocks.{joined-same, length-row, block-end}
+use Rattle.cells.specs.Reading.{block-end}
+use Rattle.cells.proofs.Blocks.{joined-same}
 use Rattle.cells.proofs.Sweeps.{parts-whole}
 use Rattle.cells.proofs.Written.{getD-row}
 use Rattle.grid.specs.declared.Record.{Record}
@@ -25,19 +26,19 @@ use Rattle.grid.specs.declared.stores.Lengths.{Lengths}
 use Rattle.grid.specs.Canon.{canon}
 use Rattle.grid.specs.Fault.{beyond, allBelow, faultOf}
 use Rattle.grid.specs.Stores.{storeLengths, lengthsOf}
-use Rattle.grid.proofs.Tests.{and-left, and-right, or-none}
+use Rattle.grid.proofs.Tests.{and-left, and-right}
 use Rattle.grid.proofs.Judging.{sound}
-use Rattle.heads.specs.Numbers.{ghWidths, ghFine, ghOf, mlWidths, mlFine, mlOf}
-use Rattle.heads.proofs.Puts.{length-nums}
+use Rattle.heads.specs.Numbers.{ghWidths, ghLength, ghFine, ghOf, mlWidths, mlLength, mlFine, mlOf}
+use Rattle.heads.specs.Payloads.{headBytes, materialBytes, headOf, countOf, entryAt, entryMaterial, materialsOf, recordOf}
 use Rattle.heads.proofs.Whole.{gh-total, ml-total}
-use Rattle.block.specs.Held.{MaterialHeld, Held}
+use Rattle.block.specs.Inner.Held.{Held}
 use Rattle.block.proofs.Head.{all-at}
 use Rattle.block.proofs.Again.{material-again, head-again}
-use Rattle.block.proofs.Decoded.{read-held, vacuum-held, head-held}
+use Rattle.block.proofs.Decoded.{record-held as entries-held}
 use Rattle.format.specs.Records.{frames, Expected, expected, payloadFrom}
-use Rattle.format.specs.Save.{eleven, headBytes, materialBytes, listBytes, pieces, saveBytes}
-use Rattle.format.specs.Rewind.{headOf, countOf, bare, headGood, entryOf, materialsOf, listGood, table, tableOf, bytesFault, payloadOf, readRecord, readStores, rewindFault}
-use Rattle.format.specs.Savable.{StoresHeld}
+use Rattle.format.specs.Save.{eleven, listBytes, pieces, saveBytes}
+use Rattle.format.specs.Rewind.{saveHead, bare, headGood, listGood, table, tableOf, bytesFault, payloadOf, readRecord, readStores}
+use Rattle.format.specs.InMemory.{StoresHeld}
 use Rattle.format.proofs.Walk.{cutUp, Passed, walk-back, walk-passed}
 use Rattle.format.proofs.Bare.{bare-lengths}
 use Rattle.format.proofs.Back.{record-again}
@@ -49,7 +50,7 @@ eleven-same a b c d e f g h i j k a' b' c' d' e' f' g' h' i' j' k' p q r s t u v
 
 module _ (b : List ℕ) (bytes : T (bytesFit b)) (ok : bytesFault b ≡ 0) where
   abbrev g : List ℕ
-  g = headOf b
+  g = saveHead b
 
   abbrev es : List Expected
   es = tableOf g
@@ -71,7 +72,7 @@ module _ (b : List ℕ) (bytes : T (bytesFit b)) (ok : bytesFault b ≡ 0) where
   passed i l = walk-passed es b i none bytes ok l
 
   -- ---- GH
-  head-passed : Passed (expected 0 73 (λ p. headGood (nums ghWidths p))) (drop 6 b)
+  head-passed : Passed (expected 0 ghLength (λ p. headGood (headOf p))) (drop 6 b)
   unfolding tableOf table payloadFrom
   head-passed = let q = passed 0 (omega arith) in record { room = q .room; good = q .good; bytes = q .bytes }
 
@@ -82,7 +83,7 @@ module _ (b : List ℕ) (bytes : T (bytesFit b)) (ok : bytesFault b ≡ 0) where
   head-fit : total ghWidths ≤ length (drop 6 b)
   head-fit = omega (arith, gh-total, head-passed .room)
 
-  head-bytes : headBytes r ≡ take 73 (drop 6 b)
+  head-bytes : headBytes r ≡ take ghLength (drop 6 b)
   unfolding readRecord
   head-bytes =
       ap (enc ghWidths) (head-again g (materialsOf count (payloadOf b 1)) (length-nums ghWidths (drop 6 b)) (nums-fit ghWidths (drop 6 b) head-fit (head-passed .bytes)) head-fine)
@@ -93,56 +94,56 @@ module _ (b : List ℕ) (bytes : T (bytesFit b)) (ok : bytesFault b ≡ 0) where
   abbrev p : List ℕ
   p = payloadOf b 1
 
-  list-passed : Passed (expected 0 (125 * count) (listGood g)) p
+  list-passed : Passed (expected 0 (mlLength * count) (listGood g)) p
   unfolding tableOf table
   list-passed = let q = passed 1 (omega arith) in record { room = q .room; good = q .good; bytes = q .bytes }
 
   abbrev each : Bool
-  each = allBelow (λ i. mlFine (entryOf p i)) count
+  each = allBelow (λ i. mlFine (entryAt p i)) count
 
   -- the record that is read has no fault
   pub read-none : faultOf (readRecord b) ≡ 0
   unfolding listGood readRecord
   read-none = eqb-true (faultOf r) 0 (and-right each (eqb (faultOf r) 0) (list-passed .good))
 
-  entry-fine : (i : ℕ) → i < count → mlFine (entryOf p i) ≡ true
+  entry-fine : (i : ℕ) → i < count → mlFine (entryAt p i) ≡ true
   unfolding listGood
-  entry-fine i l = all-at (λ k. mlFine (entryOf p k)) count i (and-left each (eqb (faultOf (ghOf g (materialsOf count p))) 0) (list-passed .good)) l
+  entry-fine i l = all-at (λ k. mlFine (entryAt p k)) count i (and-left each (eqb (faultOf (recordOf g p)) 0) (list-passed .good)) l
 
   few : count ≤ 16
   unfolding readRecord ghOf
   few = sound r read-none .materials
 
-  material-is : (i : ℕ) → i < count → getD (materialsOf count p) i beyond ≡ mlOf (entryOf p i)
+  material-is : (i : ℕ) → i < count → getD (materialsOf count p) i beyond ≡ mlOf (entryAt p i)
   unfolding materialsOf
   material-is i l =
-      getD-row 16 (λ k. cond (ltb k count) (mlOf (entryOf p k)) vacuumMaterial) i beyond (omega (arith, l, few))
-      ∙ ap (λ (t : Bool). cond t (mlOf (entryOf p i)) vacuumMaterial) (lt-ltb i count l)
+      getD-row 16 (entryMaterial count p) i beyond (omega (arith, l, few))
+      ∙ ap (λ (t : Bool). cond t (mlOf (entryAt p i)) vacuumMaterial) (lt-ltb i count l)
 
   abbrev whole : List ℕ
-  whole = take (count * 125) p
+  whole = take (count * mlLength) p
 
-  entry-bytes : (i : ℕ) → i < count → materialBytes (getD (materialsOf count p) i beyond) ≡ part whole (i * 125) 125
+  entry-bytes : (i : ℕ) → i < count → materialBytes (getD (materialsOf count p) i beyond) ≡ part whole (i * mlLength) mlLength
   unfolding part
   entry-bytes i l =
-      let rest : List ℕ = drop (125 * i) p in
-      let end : i * 125 + 125 ≤ count * 125 = block-end i count 125 l in
-      let room : total mlWidths ≤ length rest = omega (arith, ml-total, length-drop (125 * i) p, list-passed .room, end) in
-      let fits : T (bytesFit rest) = every-drop _ (125 * i) p (list-passed .bytes) in
-      let place : 125 * i ≡ i * 125 = omega arith in
+      let rest : List ℕ = drop (mlLength * i) p in
+      let end : i * mlLength + mlLength ≤ count * mlLength = block-end i count mlLength l in
+      let room : total mlWidths ≤ length rest = omega (arith, ml-total, length-drop (mlLength * i) p, list-passed .room, end) in
+      let fits : T (bytesFit rest) = every-drop _ (mlLength * i) p (list-passed .bytes) in
+      let place : mlLength * i ≡ i * mlLength = omega arith in
       ap (λ (m : DispersiveMaterial). materialBytes m) (material-is i l)
-      ∙ ap (enc mlWidths) (material-again (entryOf p i) (length-nums mlWidths rest) (nums-fit mlWidths rest room fits) (entry-fine i l))
+      ∙ ap (enc mlWidths) (material-again (entryAt p i) (length-nums mlWidths rest) (nums-fit mlWidths rest room fits) (entry-fine i l))
       ∙ enc-nums mlWidths rest room fits
       ∙ ap (λ (k : ℕ). take k rest) ml-total
-      ∙ ap (λ (k : ℕ). take 125 (drop k p)) place
-      ∙ sym (part-take (count * 125) p (i * 125) 125 end)
+      ∙ ap (λ (k : ℕ). take mlLength (drop k p)) place
+      ∙ sym (part-take (count * mlLength) p (i * mlLength) mlLength end)
 
-  list-bytes : listBytes r ≡ take (125 * count) p
+  list-bytes : listBytes r ≡ take (mlLength * count) p
   unfolding listBytes readRecord ghOf
   list-bytes =
-      let place : count * 125 ≡ 125 * count = omega arith in
-      joined-same count _ (λ i. part whole (i * 125) 125) entry-bytes
-      ∙ parts-whole count 125 whole (length-take-le (count * 125) p (omega (arith, list-passed .room, place)))
+      let place : count * mlLength ≡ mlLength * count = omega arith in
+      joined-same count _ (λ i. part whole (i * mlLength) mlLength) entry-bytes
+      ∙ parts-whole count mlLength whole (length-take-le (count * mlLength) p (omega (arith, list-passed .room, place)))
       ∙ ap (λ (k : ℕ). take k p) place
 
   -- ---- the stores
@@ -229,20 +230,9 @@ module _ (b : List ℕ) (bytes : T (bytesFit b)) (ok : bytesFault b ≡ 0) where
       omega arith
 
   pub record-held : Held (readRecord b)
-  unfolding readRecord materialsOf
-  record-held =
-      head-held g (materialsOf count p) steps-small (length-row 16 _)
-      (λ i l. subst MaterialHeld (sym (getD-row 16 (λ k. cond (ltb k count) (mlOf (entryOf p k)) vacuumMaterial) i beyond l)) (go i (ltb i count)))
-    where
-      go : (i : ℕ) (t : Bool) → MaterialHeld (cond t (mlOf (entryOf p i)) vacuumMaterial)
-      go i true = read-held (entryOf p i)
-      go i false = vacuum-held
+  unfolding readRecord
+  record-held = entries-held g p steps-small
 
   -- and nothing in its record means nothing
   pub read-canon : canon (readRecord b) ≡ readRecord b
   read-canon = sym (record-again r (readStores b) read-none record-held read-lengths stores-held) ∙ ap readRecord bytes-again
-
--- ---- (b) bytes that a rewind accepts are what their study writes
-pub save-again : (b : List ℕ) (l : Lengths) → T (bytesFit b) → rewindFault b l ≡ 0 → saveBytes (readRecord b) (readStores b) ≡ b
-unfolding rewindFault
-save-again b l bytes ok = bytes-again b bytes (or-none (bytesFault b) _ ok .0)

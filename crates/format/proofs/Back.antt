@@ -8,7 +8,7 @@ use borrow.Author.Tests.{eq-eqb, ne-eqb, ltb-true, ltb-false}
 use lib.Dec.{T, eqb, ltb}
 use lib.ListN.{length, getD, take, drop}
 use lib.Ieee.{Float}
-use Rattle.codec.specs.Bytes.{nums, floatsBytes, floatsOf, floatsFit, idsBytes, idsOf}
+use Rattle.codec.specs.Bytes.{floatsBytes, floatsOf, floatsFit, idsBytes, idsOf}
 use Rattle.codec.specs.Frame.{frameFault, short}
 use Rattle.codec.proofs.Framed.{frame-cut}
 use Rattle.codec.proofs.Back.{floats-back, ids-back}
@@ -17,15 +17,16 @@ use Rattle.grid.specs.declared.stores.Lengths.{Lengths}
 use Rattle.grid.specs.Canon.{canon}
 use Rattle.grid.specs.Fault.{first, faultOf}
 use Rattle.grid.specs.Stores.{Stores, stores, storeLengths, lengthsOf, sameLengths, badStore, lentFault}
-use Rattle.heads.specs.Numbers.{ghWidths, ghNums, ghOf}
-use Rattle.block.specs.Held.{Held}
-use Rattle.format.specs.Records.{Piece, piece, framed, frames, trailing, Expected, expected, recordFault, recordsFault, payloadFrom}
-use Rattle.format.specs.Save.{markGH, headBytes, listBytes, pieces, saveBytes, saveLength}
-use Rattle.format.specs.Rewind.{headOf, countOf, bare, headGood, materialsOf, table, tableOf, bytesFault, payloadOf, readRecord, readStores, rewindFault}
-use Rattle.format.specs.Savable.{StoresHeld}
+use Rattle.heads.specs.Numbers.{ghLength, ghNums}
+use Rattle.heads.specs.Payloads.{headBytes, headOf, recordOf}
+use Rattle.block.specs.Inner.Held.{Held}
+use Rattle.format.specs.Records.{Piece, piece, framed, frames, trailing, Expected, recordFault, recordsFault, payloadFrom}
+use Rattle.format.specs.Save.{markGH, listBytes, pieces, saveBytes, saveLength}
+use Rattle.format.specs.Rewind.{saveHead, bare, headRecord, table, tableOf, bytesFault, payloadOf, readRecord, readStores, rewindFault}
+use Rattle.format.specs.InMemory.{StoresHeld}
 use Rattle.format.proofs.Walk.{Meets, AllMeet, met-frame, met-payload, met-past, walk-met, walk-cut, walk-from}
 use Rattle.format.proofs.Bare.{own-lengths}
-use Rattle.format.proofs.Written.{save-long, head-nums, record-back, table-met, own-table}
+use Rattle.format.proofs.Written.{save-long, head-nums, list-back, table-met, own-table}
 
 pub same-self : (l : Lengths) → sameLengths l l ≡ true
 unfolding sameLengths
@@ -79,9 +80,9 @@ module _ (r : Record) (s : Stores) (ok : faultOf r ≡ 0) (h : Held r) (fit : le
     unfolding saveBytes pieces
     from i l = walk-from es ps i none rest met l
 
-    head-is : headOf b ≡ g
+    head-is : saveHead b ≡ g
     unfolding tableOf table payloadFrom pieces
-    head-is = ap (nums ghWidths) (from 0 (omega arith)) ∙ head-nums r ok h (after 0)
+    head-is = ap headOf (from 0 (omega arith)) ∙ head-nums r ok h (after 0)
 
     -- the bytes of a study and what follows: 16 unless nothing does
     pub saved-fault : bytesFault b ≡ first (eqb (length rest) 0) trailing 0
@@ -91,10 +92,6 @@ module _ (r : Record) (s : Stores) (ok : faultOf r ≡ 0) (h : Held r) (fit : le
     payload-is : (i : ℕ) → i < 11 → payloadOf b i ≡ getD ps i none .payload ++ after i
     payload-is i l = ap (λ (n : List ℕ). payloadFrom (tableOf n) i b) head-is ∙ from i l
 
-    count-is : countOf (headOf b) ≡ r .«material_count»
-    unfolding ghNums
-    count-is = ap countOf head-is
-
     list-is : payloadOf b 1 ≡ listBytes r ++ after 1
     unfolding pieces
     list-is = payload-is 1 (omega arith)
@@ -102,12 +99,9 @@ module _ (r : Record) (s : Stores) (ok : faultOf r ≡ 0) (h : Held r) (fit : le
     pub saved-record : readRecord b ≡ canon r
     unfolding readRecord
     saved-record =
-        ap (λ (n : List ℕ). ghOf n (materialsOf (countOf (headOf b)) (payloadOf b 1))) head-is
-        ∙ ap (λ (n : ℕ). ghOf g (materialsOf n (payloadOf b 1))) count-is
-        ∙ ap (λ (p : List ℕ). ghOf g (materialsOf (r .«material_count») p)) list-is
-        ∙ record-back r ok h (after 1)
+        ap (λ (n : List ℕ). recordOf n (payloadOf b 1)) head-is ∙ ap (recordOf g) list-is ∙ list-back r ok h (after 1)
 
-    lengths-are : storeLengths (bare (headOf b)) ≡ lengthsOf s
+    lengths-are : storeLengths (bare (saveHead b)) ≡ lengthsOf s
     lengths-are = ap (λ (n : List ℕ). storeLengths (bare n)) head-is ∙ own-lengths r ∙ sym fit
 
     floats-are : (n : ℕ) (p : List ℕ) (xs : List Float) (more : List ℕ) → n ≡ length xs → p ≡ floatsBytes xs ++ more → T (floatsFit xs) → floatsOf n p ≡ xs
@@ -152,10 +146,7 @@ module _ (r : Record) (s : Stores) (ok : faultOf r ≡ 0) (h : Held r) (fit : le
   stores-again = ap readStores (sym (append-nil (saveBytes r s))) ∙ saved-stores []
 
   -- ---- (c) cut short anywhere, it is refused as Short
-  abbrev gh : Expected
-  gh = expected markGH 73 (λ p. headGood (nums ghWidths p))
-
-  first-met : Meets gh (piece markGH (headBytes r))
+  first-met : Meets headRecord (piece markGH (headBytes r))
   unfolding table pieces AllMeet
   first-met = table-met r s ok h fit k .0
 
@@ -168,30 +159,30 @@ module _ (r : Record) (s : Stores) (ok : faultOf r ≡ 0) (h : Held r) (fit : le
   as-first = refl
 
   -- within GH
-  cut-early : (n : ℕ) → n < 79 → bytesFault (take n (saveBytes r s)) ≡ short
+  cut-early : (n : ℕ) → n < 6 + ghLength → bytesFault (take n (saveBytes r s)) ≡ short
   unfolding bytesFault tableOf table recordsFault recordFault
   cut-early n l =
-      let f : frameFault markGH 73 (saveBytes r s) ≡ 0 = ap (frameFault markGH 73) as-first ∙ met-frame gh _ first-met later in
-      rw (frame-cut markGH 73 (saveBytes r s) f n l)
+      let f : frameFault markGH ghLength (saveBytes r s) ≡ 0 = ap (frameFault markGH ghLength) as-first ∙ met-frame headRecord _ first-met later in
+      rw (frame-cut markGH ghLength (saveBytes r s) f n l)
 
   -- after it
-  head-kept : (n : ℕ) → 79 ≤ n → headOf (take n (saveBytes r s)) ≡ g
+  head-kept : (n : ℕ) → 6 + ghLength ≤ n → saveHead (take n (saveBytes r s)) ≡ g
   head-kept n l =
-      ap (λ (x : List ℕ). headOf (take n x)) as-first
-      ∙ ap headOf (met-past gh _ first-met later n l)
-      ∙ ap (nums ghWidths) (met-payload gh _ first-met (take (n - 79) later))
-      ∙ head-nums r ok h (take (n - 79) later)
+      ap (λ (x : List ℕ). saveHead (take n x)) as-first
+      ∙ ap saveHead (met-past headRecord _ first-met later n l)
+      ∙ ap headOf (met-payload headRecord _ first-met (take (n - (6 + ghLength)) later))
+      ∙ head-nums r ok h (take (n - (6 + ghLength)) later)
 
-  cut-late : (n : ℕ) → 79 ≤ n → n < length (saveBytes r s) → bytesFault (take n (saveBytes r s)) ≡ short
+  cut-late : (n : ℕ) → 6 + ghLength ≤ n → n < length (saveBytes r s) → bytesFault (take n (saveBytes r s)) ≡ short
   unfolding bytesFault saveBytes
   cut-late n l m = ap (λ (x : List ℕ). recordsFault (tableOf x) (take n (saveBytes r s))) (head-kept n l) ∙ walk-cut es ps n met m
 
   cut-any : (n : ℕ) → n < length (saveBytes r s) → bytesFault (take n (saveBytes r s)) ≡ short
-  cut-any n m = go (ltb n 79) refl
+  cut-any n m = go (ltb n (6 + ghLength)) refl
     where
-      go : (t : Bool) → ltb n 79 ≡ t → bytesFault (take n (saveBytes r s)) ≡ short
-      go true e = cut-early n (ltb-true n 79 e)
-      go false e = cut-late n (ltb-false n 79 e) m
+      go : (t : Bool) → ltb n (6 + ghLength) ≡ t → bytesFault (take n (saveBytes r s)) ≡ short
+      go true e = cut-early n (ltb-true n (6 + ghLength) e)
+      go false e = cut-late n (ltb-false n (6 + ghLength) e) m
 
   pub save-cut : (n : ℕ) (l : Lengths) → n < saveLength r → rewindFault (take n (saveBytes r s)) l ≡ short
   unfolding rewindFault

@@ -1,5 +1,5 @@
 -- A record of which GH alone is known: what 1 to 3 find in it is among what they find in the whole record. Assumes nothing.
-use Prim.Native.Nat.{ℕ, zero, suc, _<_}
+use Prim.Native.Nat.{ℕ, zero, suc}
 use native.Mathlib.Omega.{arith}
 use mathlib.Core.Path.{_≡_, refl, ap, _∙_}
 use mathlib.Core.Bool.{Bool, true, _&&_}
@@ -12,15 +12,11 @@ use Rattle.dispersion.specs.Material.{vacuumMaterial}
 use Rattle.grid.specs.declared.Record.{Record}
 use Rattle.grid.specs.Edited.{withMaterials}
 use Rattle.grid.specs.Stores.{storeLengths}
-use Rattle.grid.specs.Fault.{beyond, poleCount, allBelow, sizeFits, spacingsFit, countsFit, polesFit, layerFits, regionFits, studyFits, faultOf}
+use Rattle.grid.specs.Fault.{beyond, poleCount, sizeFits, spacingsFit, countsFit, polesFit, layerFits, regionFits, studyFits, faultOf}
 use Rattle.grid.proofs.Tests.{and-left, and-right, first-none}
 use Rattle.heads.specs.Numbers.{ghNums, ghOf}
+use Rattle.block.proofs.Head.{all-true}
 use Rattle.format.specs.Rewind.{bare}
-
-pub all-true : (f : ℕ → Bool) (n : ℕ) → ((i : ℕ) → i < n → f i ≡ true) → allBelow f n ≡ true
-unfolding allBelow
-all-true f zero h = refl
-all-true f (suc n) h = rw (all-true f n (λ i l. h i (omega arith)), h n (omega arith))
 
 no-poles : (n i : ℕ) → getD (replicate n vacuumMaterial) i beyond .«pole_count» ≡ 0
 no-poles zero i = refl

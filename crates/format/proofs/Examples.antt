@@ -1,5 +1,5 @@
 -- Document 01's order of a save's faults, worked on small bytes. Assumes nothing.
-use Prim.Native.Nat.{ℕ}
+use Prim.Native.Nat.{ℕ, _+_}
 use mathlib.Core.Path.{_≡_, refl}
 use mathlib.Core.List.{List, [], _∷_, _++_}
 use lib.Ieee.{ofBits, nanBits}
@@ -8,7 +8,7 @@ use Rattle.codec.specs.Bytes.{le, unle, enc, nums, fine}
 use Rattle.codec.specs.Frame.{frameBytes, frameFault}
 use Rattle.grid.specs.declared.Record.{Record}
 use Rattle.grid.specs.Fault.{sideFits, sidesFit, sizeFits, spacingsFit, allBelow, countsFit, polesFit, layerFits, regionFits, studyFits, faultOf}
-use Rattle.heads.specs.Numbers.{ghWidths, flagsFine, cornersFine, ghShaped, ghFine, ghOf}
+use Rattle.heads.specs.Numbers.{ghWidths, ghLength, flagsFine, cornersFine, ghShaped, ghFine, ghOf}
 use Rattle.format.specs.Records.{recordFault, recordsFault}
 use Rattle.format.specs.Save.{markGH, saveLength}
 use Rattle.format.specs.Rewind.{bare, headGood, table, tableOf, bytesFault}
@@ -22,10 +22,10 @@ head p =
     1 ∷ 1 ∷ 1 ∷ 0 ∷ 0 ∷ 0 ∷ 0 ∷ 0 ∷ 0 ∷ 0 ∷ 0 ∷ p ∷ 1 ∷ 0 ∷ 0 ∷ 0 ∷ 0 ∷ 0 ∷ 0 ∷ 0 ∷ one ∷ one ∷ one ∷ one ∷ 0 ∷ 0 ∷ []
 
 abbrev gh : ℕ → List ℕ
-gh p = frameBytes markGH 73 ++ enc ghWidths (head p)
+gh p = frameBytes markGH ghLength ++ enc ghWidths (head p)
 
 -- nothing at all is 13; another mark is 14; another length of GH is 15, though the payload is cut off too; a payload cut off is 13
-pub first-frame : (bytesFault [] ≡ 13) × (bytesFault (frameBytes 0x4747 73) ≡ 14) × (bytesFault (frameBytes markGH 74) ≡ 15) × (bytesFault (frameBytes markGH 73) ≡ 13)
+pub first-frame : (bytesFault [] ≡ 13) × (bytesFault (frameBytes 0x4747 ghLength) ≡ 14) × (bytesFault (frameBytes markGH (ghLength + 1)) ≡ 15) × (bytesFault (frameBytes markGH ghLength) ≡ 13)
 unfolding bytesFault tableOf table recordsFault recordFault frameFault part enc le unle
 first-frame = (refl, refl, refl, refl)
 

@@ -17,16 +17,16 @@ use Rattle.grid.specs.Canon.{canon}
 use Rattle.grid.specs.Fault.{faultOf}
 use Rattle.grid.specs.Stores.{Stores, storeLengths, lengthsOf}
 use Rattle.heads.specs.Numbers.{ghWidths, ghNums, mlWidths}
-use Rattle.block.specs.Held.{Held}
+use Rattle.block.specs.Inner.Held.{Held}
 use Rattle.format.specs.Records.{Piece, framed, frames}
 use Rattle.format.specs.Save.{listBytes, pieces, saveBytes}
 use Rattle.format.specs.Rewind.{bytesFault, readRecord, readStores}
-use Rattle.format.specs.Savable.{StoresHeld}
+use Rattle.format.specs.InMemory.{StoresHeld}
 use Rattle.format.proofs.Back.{saved-fault, record-again, stores-again}
 use Rattle.format.proofs.Again.{bytes-again}
 
 -- ---- what is written are bytes
-joined-fit : (n : ℕ) (g : ℕ → List ℕ) → ((i : ℕ) → T (bytesFit (g i))) → T (bytesFit (joined n g))
+pub joined-fit : (n : ℕ) (g : ℕ → List ℕ) → ((i : ℕ) → T (bytesFit (g i))) → T (bytesFit (joined n g))
 unfolding joined every
 joined-fit zero g h = tt
 joined-fit (suc n) g h = every-append _ (joined n g) (g n) (joined-fit n g h) (h n)

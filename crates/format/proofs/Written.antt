@@ -1,41 +1,44 @@
 -- A study without fault, written: how long each record is, and that each is as GH makes it expected. Assumes nothing.
-use Prim.Native.Nat.{ℕ, zero, suc, _+_, _*_, _^_, _≤_, _<_}
+use Prim.Native.Nat.{ℕ, _+_, _*_, _^_, _≤_, _<_}
 use native.Mathlib.Nat.{add-mul, mul-assoc}
 use native.Mathlib.Omega.{arith}
 use mathlib.Core.Path.{_≡_, refl, sym, ap, _∙_}
-use mathlib.Core.Bool.{Bool, true, false, cond, _&&_}
+use mathlib.Core.Bool.{true, _&&_}
 use mathlib.Core.List.{List, [], _∷_, _++_, map}
-use borrow.Author.Tests.{eq-eqb, ltb-true}
-use lib.Dec.{T, ltb, eqb}
-use lib.ListN.{length, getD, drop, length-append, take-append-drop, length-map, List·getD-map}
+use borrow.Author.Tests.{eq-eqb}
+use lib.Dec.{T, eqb}
+use lib.ListN.{length, getD, length-append}
 use lib.Ieee.{Float, binary64, toBits}
 use Rattle.codec.specs.Lists.{part}
-use Rattle.codec.specs.Bytes.{enc, nums, fitAll, floatsBytes, floatsFit, idsBytes}
+use Rattle.codec.specs.Bytes.{floatsBytes, floatsFit, idsBytes}
 use Rattle.codec.proofs.Row.{nums-enc, length-enc}
 use Rattle.codec.proofs.Elements.{length-bytesOf}
 use Rattle.codec.proofs.Back.{floats-fine}
 use Rattle.dispersion.specs.declared.DispersiveMaterial.{DispersiveMaterial}
 use Rattle.dispersion.specs.Material.{vacuumMaterial}
-use Rattle.cells.proofs.Blocks.{length-joined, part-left, part-block, block-end}
+use Rattle.cells.specs.Reading.{length-joined, block-end}
+use Rattle.cells.proofs.Blocks.{part-left, part-block}
 use Rattle.grid.specs.declared.Record.{Record}
 use Rattle.grid.specs.declared.stores.Lengths.{Lengths}
 use Rattle.grid.specs.Canon.{keepFirst, canonMaterial, canon}
 use Rattle.grid.specs.Fault.{beyond, allBelow, faultOf}
-use Rattle.grid.specs.Sound.{Sound}
+use Rattle.grid.specs.Inner.Sound.{Sound}
 use Rattle.grid.specs.Stores.{Stores, cells, storeLengths, lengthsOf}
 use Rattle.grid.proofs.Judging.{sound}
 use Rattle.grid.proofs.Canonical.{canon-fault}
-use Rattle.heads.specs.Numbers.{ghWidths, ghNums, ghFine, ghOf, mlWidths, mlNums, mlFine, mlOf}
+use Rattle.heads.specs.Numbers.{ghWidths, ghLength, ghNums, ghFine, ghOf, mlWidths, mlLength, mlNums, mlFine}
+use Rattle.heads.specs.Payloads.{headBytes, materialBytes, headOf, countOf, entryAt, recordOf}
 use Rattle.heads.proofs.Whole.{gh-long, ml-long, gh-total, ml-total}
-use Rattle.block.specs.Held.{Held}
-use Rattle.block.proofs.Entry.{keep-row, material-fit, material-fine, material-back}
-use Rattle.block.proofs.Head.{few-poles, head-fit, head-fine, head-back}
+use Rattle.block.specs.Inner.Held.{Held}
+use Rattle.block.proofs.Entry.{material-fine}
+use Rattle.block.proofs.Head.{all-true, head-fit, head-fine, head-back}
+use Rattle.block.proofs.Counted.{entry-is, record-back}
 use Rattle.format.specs.Records.{Piece, piece, framed, frames}
-use Rattle.format.specs.Save.{headBytes, materialBytes, listBytes, pieces, saveBytes, saveLength}
-use Rattle.format.specs.Rewind.{countOf, bare, headGood, entryOf, materialsOf, listGood, floats, table, tableOf}
-use Rattle.format.specs.Savable.{StoresHeld}
+use Rattle.format.specs.Save.{listBytes, pieces, saveBytes, saveLength}
+use Rattle.format.specs.Rewind.{bare, headGood, listGood, floatsRecord, table, tableOf}
+use Rattle.format.specs.InMemory.{StoresHeld}
 use Rattle.format.proofs.Walk.{Meets, AllMeet, meet-nil, meet-cons, length-framed}
-use Rattle.format.proofs.Bare.{all-true, bare-none, own-lengths}
+use Rattle.format.proofs.Bare.{bare-none, own-lengths}
 
 -- ---- lengths
 unfoldable pub extent : List Piece → ℕ
@@ -47,15 +50,15 @@ unfolding frames extent
 frames-long [] = refl
 frames-long (p ∷ ps) = length-append (framed p) (frames ps) ∙ omega (arith, length-framed p, frames-long ps)
 
-pub head-long : (r : Record) → length (headBytes r) ≡ 73
+pub head-long : (r : Record) → length (headBytes r) ≡ ghLength
 head-long r = length-enc ghWidths (ghNums r) (sym (gh-long r)) ∙ gh-total
 
-pub material-long : (m : DispersiveMaterial) → length (materialBytes m) ≡ 125
+pub material-long : (m : DispersiveMaterial) → length (materialBytes m) ≡ mlLength
 material-long m = length-enc mlWidths (mlNums m) (sym (ml-long m)) ∙ ml-total
 
-pub list-long : (r : Record) → length (listBytes r) ≡ 125 * r .«material_count»
+pub list-long : (r : Record) → length (listBytes r) ≡ mlLength * r .«material_count»
 unfolding listBytes
-list-long r = length-joined (r .«material_count») 125 _ (λ i _. material-long (getD (r .materials) i beyond)) ∙ omega arith
+list-long r = length-joined (r .«material_count») mlLength _ (λ i _. material-long (getD (r .materials) i beyond)) ∙ omega arith
 
 pub floats-long : (xs : List Float) → length (floatsBytes xs) ≡ 8 * length xs
 floats-long = length-bytesOf 8 (toBits binary64)
@@ -100,18 +103,6 @@ module _ (r : Record) (s : Stores) (fit : lengthsOf s ≡ storeLengths r) where
   unfolding saveBytes
   save-long = frames-long (pieces r s) ∙ extent-is
 
--- ---- numbers read from a part of a list
-nums-part : (ws ns l : List ℕ) (at m : ℕ) → T (fitAll ws ns) → part l at m ≡ enc ws ns → nums ws (drop at l) ≡ ns
-unfolding part
-nums-part ws ns l at m t e =
-    ap (nums ws) (sym (take-append-drop m (drop at l)) ∙ ap (λ (x : List ℕ). x ++ drop m (drop at l)) e) ∙ nums-enc ws ns (drop m (drop at l)) t
-
--- an element that is there, whatever stands past the end
-at-any : {A : Type 0} (l : List A) (i : ℕ) (d e : A) → i < length l → getD l i d ≡ getD l i e
-at-any [] i d e h = absurd (let z : ⊥ = omega arith in z)
-at-any (x ∷ l) zero d e h = refl
-at-any (x ∷ l) (suc i) d e h = at-any l i d e (omega arith)
-
 -- ---- GH and ML
 module _ (r : Record) (ok : faultOf r ≡ 0) (h : Held r) where
   abbrev count : ℕ
@@ -127,13 +118,13 @@ module _ (r : Record) (ok : faultOf r ≡ 0) (h : Held r) where
   small = sound r ok .materials
 
   -- the numbers of GH, whatever follows
-  pub head-nums : (rest : List ℕ) → nums ghWidths (headBytes r ++ rest) ≡ ghNums r
+  pub head-nums : (rest : List ℕ) → headOf (headBytes r ++ rest) ≡ ghNums r
   head-nums rest = nums-enc ghWidths (ghNums r) rest (head-fit r ok h)
 
   whole-none : faultOf (ghOf (ghNums r) kept) ≡ 0
   whole-none = ap faultOf (head-back r ok h kept refl) ∙ canon-fault r ∙ ok
 
-  pub head-good : (rest : List ℕ) → headGood (nums ghWidths (headBytes r ++ rest)) ≡ true
+  pub head-good : (rest : List ℕ) → headGood (headOf (headBytes r ++ rest)) ≡ true
   unfolding headGood
   head-good rest =
       ap (λ (g : List ℕ). ghFine g && eqb (faultOf (bare g)) 0) (head-nums rest)
@@ -143,51 +134,31 @@ module _ (r : Record) (ok : faultOf r ≡ 0) (h : Held r) where
     abbrev p : List ℕ
     p = listBytes r ++ rest
 
-    entry-part : (i : ℕ) → i < count → part p (125 * i) 125 ≡ materialBytes (material i)
+    entry-part : (i : ℕ) → i < count → part p (mlLength * i) mlLength ≡ materialBytes (material i)
     unfolding listBytes
     entry-part i l =
-        let place : 125 * i ≡ i * 125 = omega arith in
-        let long : length (listBytes r) ≡ 125 * count = list-long r in
-        ap (λ (k : ℕ). part p k 125) place
-        ∙ part-left (listBytes r) rest (i * 125) 125 (omega (arith, long, block-end i count 125 l))
-        ∙ part-block count i 125 (λ c. materialBytes (material c)) l (λ c _. material-long (material c))
+        let place : mlLength * i ≡ i * mlLength = omega arith in
+        let long : length (listBytes r) ≡ mlLength * count = list-long r in
+        ap (λ (k : ℕ). part p k mlLength) place
+        ∙ part-left (listBytes r) rest (i * mlLength) mlLength (omega (arith, long, block-end i count mlLength l))
+        ∙ part-block count i mlLength (λ c. materialBytes (material c)) l (λ c _. material-long (material c))
 
-    entry-is : (i : ℕ) → i < count → entryOf p i ≡ mlNums (material i)
-    entry-is i l =
-        nums-part mlWidths (mlNums (material i)) p (125 * i) 125 (material-fit (material i) (h .each i (omega (arith, l, small))) (few-poles r ok h i l)) (entry-part i l)
-
-    materials-back : materialsOf count p ≡ kept
-    unfolding materialsOf
-    materials-back =
-        keep-row count 16 vacuumMaterial (map canonMaterial (r .materials)) (λ i. cond (ltb i count) (mlOf (entryOf p i)) vacuumMaterial)
-        (length-map (r .materials) canonMaterial ∙ h .sixteen) (λ i l. go i l (ltb i count) refl)
-      where
-        there : (i : ℕ) → i < 16 → canonMaterial (material i) ≡ getD (map canonMaterial (r .materials)) i vacuumMaterial
-        there i l =
-            sym (List·getD-map canonMaterial (r .materials) i beyond)
-            ∙ at-any (map canonMaterial (r .materials)) i _ _ (omega (arith, length-map (r .materials) canonMaterial, h .sixteen))
-
-        go : (i : ℕ) → i < 16 → (t : Bool) → ltb i count ≡ t →
-            cond t (mlOf (entryOf p i)) vacuumMaterial ≡ cond t (getD (map canonMaterial (r .materials)) i vacuumMaterial) vacuumMaterial
-        go i l true e = ap mlOf (entry-is i (ltb-true i count e)) ∙ material-back (material i) (h .each i l) ∙ there i l
-        go i l false e = refl
-
-    pub record-back : ghOf (ghNums r) (materialsOf count p) ≡ canon r
-    record-back = head-back r ok h (materialsOf count p) materials-back
+    pub list-back : recordOf (ghNums r) p ≡ canon r
+    list-back = record-back r ok h p entry-part
 
     list-good : listGood (ghNums r) p ≡ true
     unfolding listGood ghNums
     list-good =
-        let each : allBelow (λ i. mlFine (entryOf p i)) count ≡ true = all-true (λ i. mlFine (entryOf p i)) count
-        (λ i l. ap mlFine (entry-is i l) ∙ material-fine (material i) (h .each i (omega (arith, l, small)))) in
-        rw (each, eq-eqb (faultOf (ghOf (ghNums r) (materialsOf count p))) 0 (ap faultOf record-back ∙ canon-fault r ∙ ok))
+        let each : allBelow (λ i. mlFine (entryAt p i)) count ≡ true = all-true (λ i. mlFine (entryAt p i)) count
+        (λ i l. ap mlFine (entry-is r ok h p entry-part i l) ∙ material-fine (material i) (h .each i (omega (arith, l, small)))) in
+        rw (each, eq-eqb (faultOf (recordOf (ghNums r) p)) 0 (ap faultOf list-back ∙ canon-fault r ∙ ok))
 
   count-is : countOf (ghNums r) ≡ count
   unfolding ghNums
   count-is = refl
 
 -- ---- a store
-floats-meet : (m : ℕ) (xs : List Float) → m < 256 ^ 2 → T (floatsFit xs) → length xs ≤ 28311552 → Meets (floats m (length xs)) (piece m (floatsBytes xs))
+floats-meet : (m : ℕ) (xs : List Float) → m < 256 ^ 2 → T (floatsFit xs) → length xs ≤ 28311552 → Meets (floatsRecord m (length xs)) (piece m (floatsBytes xs))
 floats-meet m xs low t few = record {
   same = refl;
   long = floats-long xs;
@@ -215,7 +186,7 @@ module _ (r : Record) (s : Stores) (ok : faultOf r ≡ 0) (h : Held r) (fit : le
       meet-cons _ _ _ _ (record { same = refl; long = head-long r; low = omega arith; few = omega arith; good = head-good r ok h })
       (meet-cons _ _ _ _ (record {
         same = refl;
-        long = list-long r ∙ ap (λ (n : ℕ). 125 * n) (sym (count-is r ok h));
+        long = list-long r ∙ ap (λ (n : ℕ). mlLength * n) (sym (count-is r ok h));
         low = omega arith;
         few = omega (arith, count-is r ok h, sized .materials);
         good = list-good r ok h;

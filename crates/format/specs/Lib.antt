@@ -2,4 +2,5 @@
 pub mod Records
 pub mod Save
 pub mod Rewind
-pub mod Savable
+pub mod InMemory
+pub mod Inner

@@ -1,27 +1,23 @@
 -- A save judged and read (document 01, "Rewind, record by record"). Definitions only.
 use Prim.Native.Nat.{ℕ, _*_}
-use mathlib.Core.Bool.{Bool, true, cond, _&&_}
+use mathlib.Core.Bool.{Bool, true, _&&_}
 use mathlib.Core.List.{List, [], _∷_}
-use lib.Dec.{ltb, eqb}
-use lib.ListN.{getD, drop, replicate}
-use Rattle.codec.specs.Bytes.{nums, floatsOf, allFine, idsOf}
-use Rattle.dispersion.specs.declared.DispersiveMaterial.{DispersiveMaterial}
+use lib.Dec.{eqb}
+use lib.ListN.{drop, replicate}
+use Rattle.codec.specs.Bytes.{floatsOf, allFine, idsOf}
 use Rattle.dispersion.specs.Material.{vacuumMaterial}
-use Rattle.cells.specs.Cells.{row}
 use Rattle.grid.specs.declared.Record.{Record}
 use Rattle.grid.specs.declared.stores.Lengths.{Lengths}
 use Rattle.grid.specs.Fault.{allBelow, faultOf}
 use Rattle.grid.specs.Stores.{Stores, Outcome, storeLengths, lengthsOf, sameLengths, lentFault, settle}
-use Rattle.heads.specs.Numbers.{ghWidths, ghFine, ghOf, mlWidths, mlFine, mlOf}
+use Rattle.heads.specs.Numbers.{ghLength, ghFine, ghOf, mlLength, mlFine}
+use Rattle.heads.specs.Payloads.{headOf, countOf, entryAt, recordOf}
 use Rattle.format.specs.Records.{Expected, expected, recordsFault, payloadFrom}
 use Rattle.format.specs.Save.{markGH, markML, markCI, markCM, markFE, markFH, markLE, markLH, markLT, markPP, markAX}
 
--- ---- GH: the twenty-six numbers g, of which the thirteenth is M
-abbrev pub headOf : List ℕ → List ℕ
-headOf b = nums ghWidths (drop 6 b)
-
-abbrev pub countOf : List ℕ → ℕ
-countOf g = getD g 12 0
+-- ---- GH's numbers: its payload stands behind the six bytes of its frame
+abbrev pub saveHead : List ℕ → List ℕ
+saveHead b = headOf (drop 6 b)
 
 -- the record that GH alone says: each material vacuum
 unfoldable pub bare : List ℕ → Record
@@ -31,45 +27,34 @@ bare g = ghOf g (replicate 16 vacuumMaterial)
 unfoldable pub headGood : List ℕ → Bool
 headGood g = ghFine g && eqb (faultOf (bare g)) 0
 
--- ---- ML: M materials, 125 bytes each; p are the bytes from its payload on
-abbrev pub entryOf : List ℕ → ℕ → List ℕ
-entryOf p i = nums mlWidths (drop (125 * i) p)
-
--- material i of m
-abbrev pub materialOf : ℕ → List ℕ → ℕ → DispersiveMaterial
-materialOf m p i = cond (ltb i m) (mlOf (entryOf p i)) vacuumMaterial
-
-unfoldable pub materialsOf : ℕ → List ℕ → List DispersiveMaterial
-materialsOf m p = row 16 (materialOf m p)
-
--- the same of each material, and of the whole record
+-- ---- ML: the same of each material, and of the whole record; p are the bytes from its payload on
 unfoldable pub listGood : List ℕ → List ℕ → Bool
-listGood g p = allBelow (λ i. mlFine (entryOf p i)) (countOf g) && eqb (faultOf (ghOf g (materialsOf (countOf g) p))) 0
+listGood g p = allBelow (λ i. mlFine (entryAt p i)) (countOf g) && eqb (faultOf (recordOf g p)) 0
 
 -- ---- the eleven records to come: a store's length is the one that GH's sizes give it, and ids may be any u32
 abbrev pub headRecord : Expected
-headRecord = expected markGH 73 (λ p. headGood (nums ghWidths p))
+headRecord = expected markGH ghLength (λ p. headGood (headOf p))
 
 abbrev pub listRecord : List ℕ → Expected
-listRecord g = expected markML (125 * countOf g) (listGood g)
+listRecord g = expected markML (mlLength * countOf g) (listGood g)
 
 abbrev pub idsRecord : ℕ → Expected
 idsRecord n = expected markCI (4 * n) (λ _. true)
 
-abbrev pub floats : ℕ → ℕ → Expected
-floats mark n = expected mark (8 * n) (allFine n)
+abbrev pub floatsRecord : ℕ → ℕ → Expected
+floatsRecord mark n = expected mark (8 * n) (allFine n)
 
 abbrev pub storeRecords : Lengths → List Expected
 storeRecords n =
     idsRecord (n .ids)
-    ∷ floats markCM (n .media)
-    ∷ floats markFE (n .electric)
-    ∷ floats markFH (n .magnetic)
-    ∷ floats markLE (n .«psi_e»)
-    ∷ floats markLH (n .«psi_h»)
-    ∷ floats markLT (n .tables)
-    ∷ floats markPP (n .poles)
-    ∷ floats markAX (n .aux)
+    ∷ floatsRecord markCM (n .media)
+    ∷ floatsRecord markFE (n .electric)
+    ∷ floatsRecord markFH (n .magnetic)
+    ∷ floatsRecord markLE (n .«psi_e»)
+    ∷ floatsRecord markLH (n .«psi_h»)
+    ∷ floatsRecord markLT (n .tables)
+    ∷ floatsRecord markPP (n .poles)
+    ∷ floatsRecord markAX (n .aux)
     ∷ []
 
 unfoldable pub table : List ℕ → Lengths → List Expected
@@ -80,18 +65,18 @@ tableOf g = table g (storeLengths (bare g))
 
 -- ---- the first fault of bytes by themselves: 13 to 16
 unfoldable pub bytesFault : List ℕ → ℕ
-bytesFault b = recordsFault (tableOf (headOf b)) b
+bytesFault b = recordsFault (tableOf (saveHead b)) b
 
 -- ---- the study that bytes say; those from the payload of record i on
 abbrev pub payloadOf : List ℕ → ℕ → List ℕ
-payloadOf b i = payloadFrom (tableOf (headOf b)) i b
+payloadOf b i = payloadFrom (tableOf (saveHead b)) i b
 
 unfoldable pub readRecord : List ℕ → Record
-readRecord b = ghOf (headOf b) (materialsOf (countOf (headOf b)) (payloadOf b 1))
+readRecord b = recordOf (saveHead b) (payloadOf b 1)
 
 unfoldable pub readStores : List ℕ → Stores
 readStores b =
-    let n = storeLengths (bare (headOf b)) in
+    let n = storeLengths (bare (saveHead b)) in
     record {
       ids = idsOf (n .ids) (payloadOf b 2);
       media = floatsOf (n .media) (payloadOf b 3);

@@ -4,14 +4,13 @@ use mathlib.Core.List.{List, [], _∷_}
 use lib.Dec.{leb}
 use lib.ListN.{length, getD}
 use Rattle.codec.specs.Lists.{put}
-use Rattle.codec.specs.Bytes.{enc, floatsBytes, idsBytes}
-use Rattle.dispersion.specs.declared.DispersiveMaterial.{DispersiveMaterial}
+use Rattle.codec.specs.Bytes.{floatsBytes, idsBytes}
 use Rattle.cells.specs.Cells.{joined}
 use Rattle.grid.specs.declared.Record.{Record}
 use Rattle.grid.specs.declared.stores.Lengths.{Lengths}
 use Rattle.grid.specs.Fault.{beyond, first, faultOf}
 use Rattle.grid.specs.Stores.{Stores, Outcome, cells, lengthsOf, orElse, faultWith, settle}
-use Rattle.heads.specs.Numbers.{ghWidths, ghNums, mlWidths, mlNums}
+use Rattle.heads.specs.Payloads.{headBytes, materialBytes}
 use Rattle.format.specs.Records.{Piece, piece, frames}
 
 -- ---- the marks: two letters, the first one first
@@ -57,13 +56,7 @@ eleven gh ml ci cm fe fh le lh lt pp ax =
     piece markGH gh ∷ piece markML ml ∷ piece markCI ci ∷ piece markCM cm ∷ piece markFE fe ∷ piece markFH fh
     ∷ piece markLE le ∷ piece markLH lh ∷ piece markLT lt ∷ piece markPP pp ∷ piece markAX ax ∷ []
 
-abbrev pub headBytes : Record → List ℕ
-headBytes r = enc ghWidths (ghNums r)
-
-abbrev pub materialBytes : DispersiveMaterial → List ℕ
-materialBytes m = enc mlWidths (mlNums m)
-
--- 125 bytes for each counted material
+-- ML: the counted materials, one after another
 unfoldable pub listBytes : Record → List ℕ
 listBytes r = joined (r .«material_count») (λ i. materialBytes (getD (r .materials) i beyond))
 

@@ -14,7 +14,7 @@ use lib.Ieee.Positive.{positive}
 use lib.Ieee.Fits.{up-pos}
 use borrow.Author.Tests.{leb-true, lt-ltb}
 use Rattle.grid.specs.declared.Record.{Record}
-use Rattle.grid.specs.Sound.{Sound}
+use Rattle.grid.specs.Inner.Sound.{Sound}
 use Rattle.grid.specs.Fault.{sideFits, sidesFit, sizeFits, allBelow, poleCount, countsFit, polesFit, layerFits, regionFits, spacingsFit, studyFits, faultOf}
 use Rattle.grid.proofs.Tests.{and-left, and-right, first-none}
 

@@ -8,8 +8,9 @@ use Rattle.grid.specs.declared.Record.{Record}
 use Rattle.grid.specs.declared.stores.Lengths.{Lengths}
 use Rattle.grid.specs.declared.stores.Judged.{Judged}
 use Rattle.grid.specs.Fault.{faultOf}
-use Rattle.grid.specs.Sound.{Sound}
-use Rattle.grid.specs.Stores.{outcome, settle, storeLengths, sameLengths, lentFault, noLengths, judgedBy, judged, faultLent, faultWith}
+use Rattle.grid.specs.Inner.Sound.{Sound}
+use Rattle.grid.specs.Stores.{outcome, settle, storeLengths, sameLengths, lentFault, faultLent, faultWith}
+use Rattle.grid.specs.Inner.Judging.{noLengths, judgedBy, judged}
 use Rattle.grid.proofs.Tests.{and-left, and-right, first-none, or-none}
 use Rattle.grid.proofs.Judging.{sound}
 

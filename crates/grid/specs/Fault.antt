@@ -45,7 +45,7 @@ beyond = record { «eps_inf» = nan; sigma = nan; «mu_r» = nan; «pole_count»
 abbrev pub poleCount : Record → ℕ → ℕ
 poleCount r i = getD (r .materials) i beyond .«pole_count»
 
--- P above 4, material count not 1 to 16, built count above it, material 0 with a pole
+-- more than 4 pole slots (document 01's P), material count not 1 to 16, built count (the materials that dispersion was built for, 0 where it is off) above it, material 0 with a pole
 unfoldable pub countsFit : Record → Bool
 countsFit r =
     leb (r .«pole_slots») maxPoleSlots
@@ -59,7 +59,7 @@ unfoldable pub allBelow : (ℕ → Bool) → ℕ → Bool
 allBelow f zero = true
 allBelow f (suc n) = allBelow f n && f n
 
--- a material with more than P poles
+-- a material with more poles than slots
 unfoldable pub polesFit : Record → Bool
 polesFit r = allBelow (λ i. leb (poleCount r i) (r .«pole_slots»)) (r .«material_count»)
 
@@ -67,7 +67,7 @@ polesFit r = allBelow (λ i. leb (poleCount r i) (r .«pole_slots»)) (r .«mate
 unfoldable pub layerFits : List Bool → Bool → Bool
 layerFits active on = on || not (getD active 0 false || getD active 1 false || getD active 2 false)
 
--- a region failing 9's test: i0 ≤ i1 < nx, j0 ≤ j1 < ny, k0 ≤ k1 < nz
+-- a region failing 9's test, its corners inclusive: i0 ≤ i1 < nx, j0 ≤ j1 < ny, k0 ≤ k1 < nz
 unfoldable pub cornersFit : Region → ℕ → ℕ → ℕ → Bool
 cornersFit r nx ny nz =
     leb (r .i0) (r .i1) && ltb (r .i1) nx && leb (r .j0) (r .j1) && ltb (r .j1) ny && leb (r .k0) (r .k1) && ltb (r .k1) nz
@@ -85,7 +85,8 @@ unfoldable pub studyFits : Record → Bool
 studyFits r = countsFit r && polesFit r && layerFits (r .active) (r .«layer_on») && regionFits (r .region) (r .nx) (r .ny) (r .nz)
 
 -- ---- the first fault's number, or 0
-abbrev pub first : Bool → ℕ → ℕ → ℕ
+-- n unless the test passes, then what later tests find
+abbrev pub first : (passes : Bool) → (n later : ℕ) → ℕ
 first true n later = later
 first false n later = n
 

@@ -8,12 +8,11 @@ use lib.Ieee.{Float, nan}
 use Rattle.root.specs.Rounded.{zeroF}
 use Rattle.grid.specs.declared.Record.{Record}
 use Rattle.grid.specs.declared.stores.Lengths.{Lengths}
-use Rattle.grid.specs.declared.stores.Judged.{Judged}
 use Rattle.grid.specs.Fault.{faultOf, first}
 
--- electric: ex, ey, ez. magnetic: hx, hy, hz. media, the cell numbers: eps_r, mu_r, sigma. psiE, psiH: the layer's memories in the order of `Psi`.
--- tables, the absorber tables: of each axis kinv_e, b_e, c_e, kinv_h, b_h, c_h. poles: p by slot and component, p_prev alike, dp.
--- aux, the auxiliary line: ex, hy. ids: a material's number for each cell.
+-- Each store is several lists of one number a cell, one after another. electric: ex, ey, ez. magnetic: hx, hy, hz. media (document 01's cell numbers): eps_r, mu_r,
+-- sigma. psiE, psiH: the layer's memories Exy, Exz, Eyz, Eyx, Ezx, Ezy and Hxy, .. alike. poles, for S pole slots (document 01's P): p by slot and component, p_prev alike, dp. ids: of
+-- each cell the number of its material. Not by cells: tables, of each axis kinv_e, b_e, c_e, kinv_h, b_h, c_h; aux, the auxiliary line's ex and hy.
 pub record Stores : Type 0 where
   pub electric : List Float
   pub magnetic : List Float
@@ -34,7 +33,14 @@ stores e h m pe ph t p a i =
 abbrev pub zeros : ℕ → List Float
 zeros n = replicate n zeroF
 
--- N
+-- the auxiliary line has 24 places below k = 0 and 24 above k = nz - 1
+abbrev pub pad : ℕ
+pad = 24
+
+abbrev pub lineLength : (nz : ℕ) → ℕ
+lineLength nz = nz + 2 * pad
+
+-- N, the number of cells
 abbrev pub cells : Record → ℕ
 cells r = r .nx * r .ny * r .nz
 
@@ -47,7 +53,7 @@ storeLengths r = record {
   «psi_h» = 6 * cells r;
   tables = 6 * (r .nx + r .ny + r .nz);
   poles = (6 * r .«pole_slots» + 3) * cells r;
-  aux = 2 * (r .nz + 48);
+  aux = 2 * lineLength (r .nz);
   ids = cells r;
 }
 
@@ -79,7 +85,7 @@ sameLengths a b =
 abbrev pub badStore : ℕ
 badStore = 4
 
--- number c of the cell at place m, in a store of n cells
+-- number c of the cell with the index m, in a store of n cells
 abbrev pub numberAt : List Float → (n c m : ℕ) → Float
 numberAt s n c m = getD s (c * n + m) nan
 
@@ -96,18 +102,7 @@ lentFault f fits = orElse f (first fits badStore 0)
 unfoldable pub faultLent : Record → Bool → ℕ
 faultLent r fits = lentFault (faultOf r) fits
 
--- a record judged once for a call: its own fault and, where it has none, how long each store has to be
-abbrev pub noLengths : Lengths
-noLengths = record { electric = 0; magnetic = 0; media = 0; «psi_e» = 0; «psi_h» = 0; tables = 0; poles = 0; aux = 0; ids = 0 }
-
-abbrev pub judgedBy : ℕ → Record → Judged
-judgedBy zero r = record { refusal = 0; lengths = storeLengths r }
-judgedBy (suc n) r = record { refusal = suc n; lengths = noLengths }
-
-unfoldable pub judged : Record → Judged
-judged r = judgedBy (faultOf r) r
-
--- the same where all nine are lent
+-- and where all nine stores are lent
 abbrev pub faultWith : Record → Lengths → ℕ
 faultWith r l = faultLent r (sameLengths l (storeLengths r))
 
@@ -120,7 +115,8 @@ pub record Outcome (A : Type 0) : Type 0 where
 abbrev pub outcome : {A : Type 0} → ℕ → Record → A → Outcome A
 outcome n r s = record { refusal = n; study = r; rest = s }
 
--- refused: all as it was, and the further answers nought; accepted: the new record and the new rest
+-- refused: the record r and the rest s that the call hands it for a refusal; accepted: the new record and the new rest. That s is the lent stores as they
+-- were, and each further answer 0, +0.0 or no axis, stands in each call; for every C function it is the law `silent` (study/proofs/Regular.antt)
 abbrev pub settle : {A : Type 0} → ℕ → Record → A → Record → A → Outcome A
 settle zero r s r' s' = outcome 0 r' s'
 settle (suc n) r s r' s' = outcome (suc n) r s

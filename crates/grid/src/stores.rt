@@ -4,8 +4,9 @@ ghost use Prim.Native.Nat.{_+_, _≤_};
 ghost use lib.ListN.{length, replicate};
 ghost use Rattle.codec.specs.Lists.{put};
 ghost use Rattle.root.specs.Rounded.{zeroF};
-ghost use Rattle.grid.specs.Sound.{Sound};
-ghost use Rattle.grid.specs.Stores.{storeLengths, sameLengths, orElse, lentFault, judged, faultWith};
+ghost use Rattle.grid.specs.Inner.Sound.{Sound};
+ghost use Rattle.grid.specs.Stores.{storeLengths, sameLengths, orElse, lentFault, faultWith};
+ghost use Rattle.grid.specs.Inner.Judging.{judged};
 use crate::Record;
 use crate::fault;
 

@@ -2,24 +2,23 @@
 use Prim.Native.Nat.{ℕ, zero, suc, _<_}
 use native.Mathlib.Nat.{not-suc-le-zero, le-of-suc-le-suc}
 use native.Mathlib.Omega.{arith}
-use mathlib.Core.Path.{_≡_, refl, sym, ap, _∙_}
+use mathlib.Core.Path.{_≡_, refl}
 use mathlib.Core.Bool.{Bool, true, false}
-use mathlib.Core.List.{List, [], _∷_, _++_, append-assoc, append-nil}
-use lib.Dec.{ltb, eqb}
+use mathlib.Core.List.{List, [], _∷_}
+use lib.Dec.{eqb}
 use lib.ListN.{length, getD}
 use lib.Ieee.{Float, binary64, ofBits}
 use Rattle.dispersion.specs.declared.Pole.{Pole}
 use Rattle.dispersion.specs.declared.Pole.the-variants.{Lorentz, Drude, Debye}
 use Rattle.dispersion.specs.declared.PoleSlot.{PoleSlot}
 use Rattle.dispersion.specs.declared.DispersiveMaterial.{DispersiveMaterial}
-use Rattle.dispersion.specs.Material.{blankSlot}
 use Rattle.grid.specs.declared.RegionKind.{RegionKind}
 use Rattle.grid.specs.declared.RegionKind.the-variants.{Absent, SlabZ, InjectorZ, BoxRegion}
 use Rattle.grid.specs.declared.Region.{Region}
 use Rattle.grid.specs.declared.Record.{Record}
 use Rattle.grid.specs.Fault.{isAbsent}
-use Rattle.grid.specs.Canon.{absentRegion, regionBy, canonRegion}
-use Rattle.heads.specs.Numbers.{bits, kindNum, kindOf, poleNums, slotNums, mlNums, flagNums, floatNums, ghNums, ghOf}
+use Rattle.grid.specs.Canon.{absentRegion, regionBy}
+use Rattle.heads.specs.Numbers.{kindOf, poleNums, slotNums, ghOf}
 
 pole-long : (p : Pole) → length (poleNums p) ≡ 4
 pole-long (Lorentz a b c) = refl

@@ -1,5 +1,5 @@
 -- Laws that the functions' proofs cite.
 pub mod Flat
-pub mod Puts
 pub mod Whole
 pub mod Written
+pub mod Listed

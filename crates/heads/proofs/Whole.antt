@@ -3,8 +3,9 @@ use mathlib.Core.Path.{_≡_, refl}
 use lib.ListN.{length, length-append}
 use Rattle.codec.specs.Bytes.{total}
 use Rattle.dispersion.specs.declared.DispersiveMaterial.{DispersiveMaterial}
+use Rattle.cells.specs.Cells.{joined}
 use Rattle.grid.specs.declared.Record.{Record}
-use Rattle.heads.specs.Numbers.{ghWidths, ghNums, mlWidths, mlNums}
+use Rattle.heads.specs.Numbers.{ghWidths, ghLength, ghNums, mlWidths, mlLength, mlNums}
 use Rattle.heads.proofs.Flat.{slot-long}
 
 pub gh-long : (r : Record) → length (ghNums r) ≡ 26
@@ -12,13 +13,13 @@ unfolding ghNums
 gh-long r = refl
 
 pub ml-long : (m : DispersiveMaterial) → length (mlNums m) ≡ 20
-unfolding mlNums
+unfolding mlNums joined
 ml-long m = simp (length-append, slot-long) refl
 
-pub gh-total : total ghWidths ≡ 73
+pub gh-total : total ghWidths ≡ ghLength
 unfolding total
 gh-total = refl
 
-pub ml-total : total mlWidths ≡ 125
+pub ml-total : total mlWidths ≡ mlLength
 unfolding total
 ml-total = refl

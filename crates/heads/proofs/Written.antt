@@ -2,24 +2,25 @@
 use Prim.Native.Nat.{ℕ, _+_, _≤_, _<_}
 use native.Mathlib.Omega.{arith}
 use mathlib.Core.Path.{_≡_, refl, sym, ap, _∙_}
-use mathlib.Core.Bool.{Bool}
 use mathlib.Core.List.{List, [], _∷_, _++_, append-nil}
 use lib.Dec.{ltb}
 use lib.ListN.{length, getD, drop, length-append}
 use Rattle.codec.specs.Lists.{put, part}
-use Rattle.codec.specs.Bytes.{le, unle, enc, nums, total}
-use Rattle.codec.proofs.Row.{nums-at, row-at}
+use Rattle.codec.specs.Bytes.{le, unle, enc, nums, total, bits}
+use Rattle.codec.proofs.Row.{nums-at, row-at, put-more}
 use Rattle.root.specs.declared.Spacings.{Spacings}
 use Rattle.dispersion.specs.declared.PoleSlot.{PoleSlot}
 use Rattle.dispersion.specs.declared.DispersiveMaterial.{DispersiveMaterial}
 use Rattle.dispersion.specs.Material.{blankSlot}
+use Rattle.cells.specs.Cells.{joined}
 use Rattle.grid.specs.declared.Clock.{Clock}
 use Rattle.grid.specs.declared.Region.{Region}
 use Rattle.grid.specs.declared.Record.{Record}
 use Rattle.grid.specs.Canon.{canonRegion}
-use Rattle.heads.specs.Numbers.{bits, kindNum, sizeWidths, flagWidths, countWidths, cornerWidths, floatWidths, planWidths, scaleWidths, flagNums, floatNums, ghWidths, ghNums, frontWidths, slotWidths, slotNums, mlWidths, mlNums}
+use Rattle.heads.specs.Numbers.{kindNum, flagNums, floatNums, ghLength, ghNums, frontWidths, slotWidths, mlLength, slotNums, mlNums}
+use Rattle.heads.specs.Payloads.{headBytes, materialBytes, headOf}
+use Rattle.heads.specs.Inner.Parts.{sizeWidths, flagWidths, countWidths, cornerWidths, floatWidths, planWidths, scaleWidths}
 use Rattle.heads.proofs.Flat.{slot-long, at-any}
-use Rattle.heads.proofs.Puts.{put-more}
 
 -- ---- GH
 abbrev corners : Region → List ℕ
@@ -47,9 +48,9 @@ scale-put l m o n at g s c x e h p q r =
     (put-more l m o at cornerWidths floatWidths (corners g) (floatNums s (c .time)) refl refl (omega arith) p (q ∙ ap (λ (y : List ℕ). put m (at + 12) (enc floatWidths y)) e)) (r ∙ ap (put o (at + 52)) (sym (append-nil (le 4 (c .steps)))))
 
 pub head-put : (l m o : List ℕ) (at : ℕ) (r : Record) (f : List ℕ) (g : Region) (k : ℕ) → f ≡ flagNums (r .periodic) (r .active) (r .«layer_on») → g ≡ canonRegion (r .region) →
-    k ≡ kindNum (g .kind) → at + 73 ≤ length l →
+    k ≡ kindNum (g .kind) → at + ghLength ≤ length l →
     m ≡ put l at (enc planWidths ((r .nx ∷ r .ny ∷ r .nz ∷ []) ++ f ++ (r .«built_count» ∷ r .«pole_slots» ∷ r .«material_count» ∷ k ∷ []))) →
-    o ≡ put m (at + 17) (enc scaleWidths (corners g ++ floatNums (r .spacings) (r .clock .time) ++ (r .clock .steps ∷ []))) → o ≡ put l at (enc ghWidths (ghNums r))
+    o ≡ put m (at + 17) (enc scaleWidths (corners g ++ floatNums (r .spacings) (r .clock .time) ++ (r .clock .steps ∷ []))) → o ≡ put l at (headBytes r)
 unfolding total ghNums
 head-put l m o at r f g k ef eg ek h p q =
     let first : List ℕ = (r .nx ∷ r .ny ∷ r .nz ∷ []) ++ flagNums (r .periodic) (r .active) (r .«layer_on») ++ (r .«built_count» ∷ r .«pole_slots» ∷ r .«material_count» ∷ k ∷ []) in
@@ -60,7 +61,7 @@ head-put l m o at r f g k ef eg ek h p q =
 pub head-read : (s : List ℕ) (at : ℕ) (n f c g x : List ℕ) (steps : ℕ) → n ≡ nums sizeWidths (drop at s) → f ≡ nums flagWidths (drop (at + 6) s) → c ≡ nums countWidths (drop (at + 13) s) →
     g ≡ nums cornerWidths (drop (at + 17) s) → x ≡ nums floatWidths (drop (at + 29) s) → steps ≡ unle (part s (at + 69) 4) →
     (getD n 0 0 ∷ getD n 1 0 ∷ getD n 2 0 ∷ getD f 0 0 ∷ getD f 1 0 ∷ getD f 2 0 ∷ getD f 3 0 ∷ getD f 4 0 ∷ getD f 5 0 ∷ getD f 6 0 ∷ getD c 0 0 ∷ getD c 1 0 ∷ getD c 2 0 ∷ getD c 3 0
-    ∷ getD g 0 0 ∷ getD g 1 0 ∷ getD g 2 0 ∷ getD g 3 0 ∷ getD g 4 0 ∷ getD g 5 0 ∷ getD x 0 0 ∷ getD x 1 0 ∷ getD x 2 0 ∷ getD x 3 0 ∷ getD x 4 0 ∷ steps ∷ []) ≡ nums ghWidths (drop at s)
+    ∷ getD g 0 0 ∷ getD g 1 0 ∷ getD g 2 0 ∷ getD g 3 0 ∷ getD g 4 0 ∷ getD g 5 0 ∷ getD x 0 0 ∷ getD x 1 0 ∷ getD x 2 0 ∷ getD x 3 0 ∷ getD x 4 0 ∷ steps ∷ []) ≡ headOf (drop at s)
 head-read s at n f c g x steps en ef ec eg ex es =
     rw (en ∙ row-at 2 (2 ∷ 2 ∷ []) s at, ef ∙ nums-at flagWidths s at 6, ec ∙ nums-at countWidths s at 13, eg ∙ nums-at cornerWidths s at 17, ex ∙ nums-at floatWidths s at 29, es)
     (sym (row-at 2 (2 ∷ 2 ∷ flagWidths ++ countWidths ++ scaleWidths) s at))
@@ -83,12 +84,12 @@ module _ (m : DispersiveMaterial) (e : PoleSlot) (long : length (m .poles) ≡ 4
   slot-put l u k at i ws ns a h f room p ea q =
       put-more l u k at ws slotWidths ns (numbers i) f (sym (slot-long (ltb i (m .«pole_count»)) (getD (m .poles) i blankSlot))) (omega (arith, room)) p (q ∙ ap (λ (x : List ℕ). put u (at + total ws) (enc slotWidths x)) (there i a h ea))
 
-  pub material-put : (l u v w x y : List ℕ) (at : ℕ) (a b c d : List ℕ) → at + 125 ≤ length l →
+  pub material-put : (l u v w x y : List ℕ) (at : ℕ) (a b c d : List ℕ) → at + mlLength ≤ length l →
       a ≡ slotNums (ltb 0 (m .«pole_count»)) (getD (m .poles) 0 e) → b ≡ slotNums (ltb 1 (m .«pole_count»)) (getD (m .poles) 1 e) →
       c ≡ slotNums (ltb 2 (m .«pole_count»)) (getD (m .poles) 2 e) → d ≡ slotNums (ltb 3 (m .«pole_count»)) (getD (m .poles) 3 e) →
       u ≡ put l at (enc frontWidths front) → v ≡ put u (at + 25) (enc slotWidths a) → w ≡ put v (at + 50) (enc slotWidths b) → x ≡ put w (at + 75) (enc slotWidths c) →
-      y ≡ put x (at + 100) (enc slotWidths d) → y ≡ put l at (enc mlWidths (mlNums m))
-  unfolding total mlNums
+      y ≡ put x (at + 100) (enc slotWidths d) → y ≡ put l at (materialBytes m)
+  unfolding total mlNums joined
   material-put l u v w x y at a b c d h ea eb ec ed p q r s z =
       let w1 : List ℕ = frontWidths ++ slotWidths in
       let w2 : List ℕ = w1 ++ slotWidths in

@@ -1,11 +1,12 @@
 // The study record as bytes: numbers of fixed widths, one after another.
+pub mod entries;
 pub mod payloads;
 
 ghost use mathlib.Core.Path.{_≡_};
 ghost use Prim.Native.Nat.{_≤_};
 ghost use lib.ListN.{getD};
 ghost use Rattle.grid.specs.Canon.{canonRegion};
-ghost use Rattle.heads.specs.Numbers.{kindNum, kindOf, poleNums, slotNums, slotOf, slotShaped, threeFine, mlNums, mlShaped, mlFine, mlOf, flagNum, flagNums, floatNums, ghNums, flagsFine, cornersFine, ghShaped, ghFine, ghOf};
+ghost use Rattle.heads.specs.Numbers.{kindNum, kindOf, poleNums, poleOf, isTag, slotNums, slotOf, slotShaped, threeFine, mlShaped, mlFine, mlOf, flagNum, flagNums, floatNums, flagsFine, cornersFine, ghShaped, ghFine, ghOf};
 use codec::floats;
 use dispersion::DispersiveMaterial;
 use dispersion::Pole;
@@ -16,6 +17,11 @@ use grid::Region;
 use grid::RegionKind;
 use grid::fault;
 use root::Spacings;
+
+// The bytes of GH's payload, and of one material.
+pub const GH_LENGTH: usize = 73;
+
+pub const ML_LENGTH: usize = 125;
 
 pub fn kind_num(k: RegionKind) -> u64
     ensures { λ n. ⌜ n ≡ kindNum k ⌝ }
@@ -77,12 +83,10 @@ pub fn slot_nums(counted: bool, s: PoleSlot) -> [u64; 4]
     pole_nums(p)
 }
 
-fn pole_of(tag: u64, a: u64, b: u64, c: u64) -> Pole
-    ensures { λ p. ⌜ p ≡ slotOf tag a b c .pole ⌝ }
+// Any other tag than 1 and 2 is read as Debye's: whether it is one is `is_tag`.
+pub fn pole_of(tag: u64, x: f64, y: f64, z: f64) -> Pole
+    ensures { λ p. ⌜ p ≡ poleOf tag x y z ⌝ }
 {
-    let x = floats::float_of(a);
-    let y = floats::float_of(b);
-    let z = floats::float_of(c);
     if tag == 1 {
         return Pole::Lorentz {
             delta_eps: x,
@@ -102,11 +106,20 @@ fn pole_of(tag: u64, a: u64, b: u64, c: u64) -> Pole
     }
 }
 
+pub fn is_tag(tag: u64) -> bool
+    ensures { λ t. ⌜ t ≡ isTag tag ⌝ }
+{
+    (1 <= tag) & (tag <= 3)
+}
+
 fn slot_of(tag: u64, a: u64, b: u64, c: u64) -> PoleSlot
     ensures { λ s. ⌜ s ≡ slotOf tag a b c ⌝ }
 {
+    let x = floats::float_of(a);
+    let y = floats::float_of(b);
+    let z = floats::float_of(c);
     PoleSlot {
-        pole: pole_of(tag, a, b, c),
+        pole: pole_of(tag, x, y, z),
     }
 }
 
@@ -116,7 +129,7 @@ fn slot_shaped(counted: bool, tag: u64, a: u64, b: u64, c: u64) -> bool
     if !counted {
         return (tag == 0) & (a == 0) & (b == 0) & (c == 0);
     }
-    (1 <= tag) & (tag <= 3) & ((tag == 1) | (c == 0))
+    is_tag(tag) & ((tag == 1) | (c == 0))
 }
 
 // Whether numbers are a material's, its floats any patterns.
@@ -140,12 +153,11 @@ fn three_fine(a: u64, b: u64, c: u64) -> bool
 pub fn ml_fine(n: [u64; 20]) -> bool
     ensures { λ f. ⌜ f ≡ mlFine n ⌝ }
 {
-    let nans = three_fine(n[0], n[1], n[2])
-        & three_fine(n[5], n[6], n[7])
+    let poles = three_fine(n[5], n[6], n[7])
         & three_fine(n[9], n[10], n[11])
         & three_fine(n[13], n[14], n[15])
         & three_fine(n[17], n[18], n[19]);
-    ml_shaped(n) & nans
+    ml_shaped(n) & three_fine(n[0], n[1], n[2]) & poles
 }
 
 pub fn ml_of(n: [u64; 20]) -> DispersiveMaterial

@@ -4,8 +4,10 @@ ghost use mathlib.Core.List.{[], _∷_, _++_};
 ghost use Prim.Native.Nat.{_+_, _≤_};
 ghost use lib.ListN.{length, drop};
 ghost use Rattle.codec.specs.Lists.{put, part};
-ghost use Rattle.codec.specs.Bytes.{le, unle, enc, nums};
-ghost use Rattle.heads.specs.Numbers.{bits, sizeWidths, flagWidths, countWidths, cornerWidths, floatWidths, planWidths, scaleWidths, floatNums, ghWidths, ghNums, frontWidths, slotWidths, mlWidths, mlNums};
+ghost use Rattle.codec.specs.Bytes.{le, unle, enc, nums, bits};
+ghost use Rattle.heads.specs.Numbers.{ghLength, floatNums, frontWidths, slotWidths, mlLength};
+ghost use Rattle.heads.specs.Payloads.{headBytes, materialBytes, headOf, entryOf};
+ghost use Rattle.heads.specs.Inner.Parts.{sizeWidths, flagWidths, countWidths, cornerWidths, floatWidths, planWidths, scaleWidths};
 use crate::flag_nums;
 use crate::float_nums;
 use crate::kept_region;
@@ -97,8 +99,8 @@ fn floats_at(s: &[u8], at: usize) -> [u64; 5]
 }
 
 pub fn get_gh(s: &[u8], at: usize) -> [u64; 26]
-    requires { ⌜ at + 73 ≤ length (now s) ⌝ }
-    ensures { λ n. ⌜ n ≡ nums ghWidths (drop at (now (s .entry))) ⌝ }
+    requires { ⌜ at + ghLength ≤ length (now s) ⌝ }
+    ensures { λ n. ⌜ n ≡ headOf (drop at (now (s .entry))) ⌝ }
 {
     let n = sizes_at(s, at);
     let f = flags_at(s, at + 6);
@@ -161,8 +163,8 @@ fn front_at(s: &[u8], at: usize) -> [u64; 4]
 }
 
 pub fn get_ml(s: &[u8], at: usize) -> [u64; 20]
-    requires { ⌜ at + 125 ≤ length (now s) ⌝ }
-    ensures { λ n. ⌜ n ≡ nums mlWidths (drop at (now (s .entry))) ⌝ }
+    requires { ⌜ at + mlLength ≤ length (now s) ⌝ }
+    ensures { λ n. ⌜ n ≡ entryOf (drop at (now (s .entry))) ⌝ }
 {
     let f = front_at(s, at);
     let a = slot_at(s, at + 25);
@@ -300,8 +302,8 @@ fn put_scale(out: &mut [u8], at: usize, g: Region, spacings: Spacings, clock: Cl
 }
 
 pub fn put_gh(out: &mut [u8], at: usize, r: Record)
-    requires { ⌜ at + 73 ≤ length (now out) ⌝ }
-    ensures { λ _. ⌜ now (out .exit) ≡ put (now (out .entry)) at (enc ghWidths (ghNums r)) ⌝ }
+    requires { ⌜ at + ghLength ≤ length (now out) ⌝ }
+    ensures { λ _. ⌜ now (out .exit) ≡ put (now (out .entry)) at (headBytes r) ⌝ }
 {
     let periodic = r.periodic;
     let active = r.active;
@@ -348,8 +350,8 @@ fn put_front(out: &mut [u8], at: usize, eps_inf: f64, sigma: f64, mu_r: f64, pol
 }
 
 pub fn put_ml(out: &mut [u8], at: usize, m: DispersiveMaterial)
-    requires { ⌜ at + 125 ≤ length (now out) ⌝ }
-    ensures { λ _. ⌜ now (out .exit) ≡ put (now (out .entry)) at (enc mlWidths (mlNums m)) ⌝ }
+    requires { ⌜ at + mlLength ≤ length (now out) ⌝ }
+    ensures { λ _. ⌜ now (out .exit) ≡ put (now (out .entry)) at (materialBytes m) ⌝ }
 {
     let n = m.pole_count;
     put_front(out, at, m.eps_inf, m.sigma, m.mu_r, n);

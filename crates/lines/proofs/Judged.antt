@@ -14,7 +14,7 @@ use Rattle.grid.specs.Stores.{cells, badStore, lentFault}
 use Rattle.grid.proofs.Tests.{and-left, first-none, or-none, or-stays, or-goes}
 use Rattle.format.specs.Rewind.{bytesFault, readRecord, readStores}
 use Rattle.lines.specs.Listing.{fitsListing, listFault, studyLines, refusedLine, listing}
-use Rattle.lines.specs.Places.{Wrote}
+use Rattle.lines.specs.Inner.Places.{TextPut}
 
 module _ (b : List ℕ) where
   pub too-long : 24576 < length b → 4 ≡ listFault b
@@ -53,17 +53,17 @@ abbrev pub Listed : (b l o : List ℕ) → ℕ → Type 0
 Listed b l o n = (n ≡ length (listing b)) × (n ≤ 8717) × (o ≡ put l 0 (listing b))
 
 module _ (b l o : List ℕ) (n f most : ℕ) (p : f ≡ listFault b) (small : most ≤ 8717) where
-  listed : (t : List ℕ) → t ≡ listing b → Wrote most l 0 t o n → Listed b l o n
+  listed : (t : List ℕ) → t ≡ listing b → TextPut most l 0 t o n → Listed b l o n
   listed t e w = (w .ends ∙ omega (arith, ap length e), omega (arith, w .short), w .is ∙ ap (put l 0) e)
 
-  pub listed-refused : (f ≡ 0 → ⊥) → Wrote most l 0 (refusedLine f) o n → Listed b l o n
+  pub listed-refused : (f ≡ 0 → ⊥) → TextPut most l 0 (refusedLine f) o n → Listed b l o n
   unfolding listing
   listed-refused h w =
       listed (refusedLine f)
       (ap refusedLine p ∙ sym (ap (λ (t : Bool). cond t (studyLines (readRecord b) (readStores b)) (refusedLine (listFault b))) (ne-eqb (listFault b) 0 (λ z. h (p ∙ z)))))
       w
 
-  pub listed-study : f ≡ 0 → Wrote most l 0 (studyLines (readRecord b) (readStores b)) o n → Listed b l o n
+  pub listed-study : f ≡ 0 → TextPut most l 0 (studyLines (readRecord b) (readStores b)) o n → Listed b l o n
   unfolding listing
   listed-study h w =
       listed (studyLines (readRecord b) (readStores b))

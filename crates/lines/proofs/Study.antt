@@ -8,24 +8,25 @@ use lib.Dec.{T}
 use lib.ListN.{length, getD, drop}
 use lib.Ieee.{Float, binary64, ofBits, nan}
 use Rattle.codec.specs.Lists.{part}
-use Rattle.codec.specs.Bytes.{unle, elementsOf, floatsOf, bytesFit}
+use Rattle.codec.specs.Bytes.{unle, elementsOf, floatsOf, bytesFit, bits}
 use Rattle.codec.proofs.Lists.{part-drop}
 use Rattle.cells.specs.Cells.{cellIndex}
-use Rattle.cells.proofs.Blocks.{joined-same, block-end}
+use Rattle.cells.specs.Reading.{block-end}
+use Rattle.cells.proofs.Blocks.{joined-same}
 use Rattle.grid.specs.declared.Record.{Record}
-use Rattle.grid.specs.Sound.{Sound}
+use Rattle.grid.specs.Inner.Sound.{Sound}
 use Rattle.grid.specs.Stores.{Stores, cells, storeLengths, numberAt}
 use Rattle.grid.proofs.Judging.{sound}
-use Rattle.heads.specs.Numbers.{bits, ghOf}
+use Rattle.heads.specs.Numbers.{ghOf}
 use Rattle.format.specs.Save.{saveLength}
 use Rattle.format.specs.Rewind.{bare, bytesFault, readRecord, readStores}
 use Rattle.format.proofs.Written.{save-long}
 use Rattle.format.proofs.Again.{read-none, read-lengths, bytes-again}
-use Rattle.saves.specs.Places.{storesAt}
+use Rattle.saves.specs.Inner.Places.{storesPlace, storesAt}
 use Rattle.saves.proofs.Taken.{all-bytes, stores-read}
 use Rattle.lines.specs.declared.fields.Fields.{Fields}
 use Rattle.lines.specs.Listing.{cellLine, cellLines, headLine, studyLines, listFault}
-use Rattle.lines.specs.Places.{Wrote, Lies, bitsAt, cellAt, rowAt, planeAt, gridAt, fieldsOf}
+use Rattle.lines.specs.Inner.Places.{TextPut, Lies, bitsAt, cellText, rowText, planeText, gridText, fieldsOf}
 use Rattle.lines.proofs.Written.{wrote-then, wrote-wider, turn-fits}
 use Rattle.lines.proofs.Judged.{no-fault, few}
 
@@ -61,8 +62,8 @@ inside nx ny nz i j k hi hj hk = omega (arith, turn-fits nx ny j hj, turn-fits (
 
 grid-same : (b : List ℕ) (f : Fields) (nx ny nz : ℕ) (e h : List Float) → f .cells ≡ nx * ny * nz → e ≡ floatsOf (3 * f .cells) (drop (f .electric) b) →
     h ≡ floatsOf (3 * f .cells) (drop (f .magnetic) b) →
-    gridAt b f nx ny nz ≡ cellLines nx ny nz (λ c m. bits (numberAt e (f .cells) c m)) (λ c m. bits (numberAt h (f .cells) c m))
-unfolding gridAt planeAt rowAt cellLines
+    gridText b f nx ny nz ≡ cellLines nx ny nz (λ c m. bits (numberAt e (f .cells) c m)) (λ c m. bits (numberAt h (f .cells) c m))
+unfolding gridText planeText rowText cellLines
 grid-same b f nx ny nz e h n pe ph =
     joined-same nz _ _ (λ k hk. joined-same ny _ _ (λ j hj. joined-same nx _ _ (λ i hi. one i j k (omega (arith, n, inside nx ny nz i j k hi hj hk)))))
   where
@@ -71,7 +72,7 @@ grid-same b f nx ny nz e h n pe ph =
     at s from p m l c hc = number-at b from (f .cells) c m hc l ∙ ap (λ (t : List Float). bits (numberAt t (f .cells) c m)) (sym p)
 
     one : (i j k : ℕ) → nx * ny * k + nx * j + i < f .cells →
-        cellAt b f i j k (nx * ny * k + nx * j + i)
+        cellText b f i j k (nx * ny * k + nx * j + i)
         ≡ cellLine i j k (λ c. bits (numberAt e (f .cells) c (cellIndex nx ny i j k))) (λ c. bits (numberAt h (f .cells) c (cellIndex nx ny i j k)))
     one i j k l =
         let m : ℕ = nx * ny * k + nx * j + i in
@@ -84,7 +85,7 @@ module _ (b : List ℕ) where
   unfolding storesAt storeLengths bare ghOf readRecord
   electric-at =
       let n = cells (readRecord b) in
-      let at = 85 + 125 * readRecord b .«material_count» in
+      let at = storesPlace (readRecord b .«material_count») in
       let e : at + (18 + 4 * n + 8 * (3 * n)) ≡ at + (18 + 28 * n) = omega arith in
       sym (ap (λ (s : Stores). s .electric) (stores-read b)) ∙ ap (λ (k : ℕ). floatsOf (3 * n) (drop k b)) e
 
@@ -92,16 +93,16 @@ module _ (b : List ℕ) where
   unfolding storesAt storeLengths bare ghOf readRecord
   magnetic-at =
       let n = cells (readRecord b) in
-      let at = 85 + 125 * readRecord b .«material_count» in
+      let at = storesPlace (readRecord b .«material_count») in
       let e : at + (24 + 4 * n + 8 * (3 * n) + 8 * (3 * n)) ≡ at + (24 + 52 * n) = omega arith in
       sym (ap (λ (s : Stores). s .magnetic) (stores-read b)) ∙ ap (λ (k : ℕ). floatsOf (3 * n) (drop k b)) e
 
   study-lines : (r : Record) → r ≡ readRecord b →
-      headLine (r .nx) (r .ny) (r .nz) (r .clock .steps) (r .«material_count») ++ gridAt b (fieldsOf r) (r .nx) (r .ny) (r .nz) ≡ studyLines (readRecord b) (readStores b)
+      headLine (r .nx) (r .ny) (r .nz) (r .clock .steps) (r .«material_count») ++ gridText b (fieldsOf r) (r .nx) (r .ny) (r .nz) ≡ studyLines (readRecord b) (readStores b)
   unfolding studyLines
   study-lines r own =
       let q = readRecord b in
-      ap (λ (t : Record). headLine (t .nx) (t .ny) (t .nz) (t .clock .steps) (t .«material_count») ++ gridAt b (fieldsOf t) (t .nx) (t .ny) (t .nz)) own
+      ap (λ (t : Record). headLine (t .nx) (t .ny) (t .nz) (t .clock .steps) (t .«material_count») ++ gridText b (fieldsOf t) (t .nx) (t .ny) (t .nz)) own
       ∙ ap (λ (t : List ℕ). headLine (q .nx) (q .ny) (q .nz) (q .clock .steps) (q .«material_count») ++ t)
       (grid-same b (fieldsOf q) (q .nx) (q .ny) (q .nz) (readStores b .electric) (readStores b .magnetic) refl electric-at magnetic-at)
 
@@ -139,9 +140,9 @@ module _ (b : List ℕ) where
       pub study-lies : Lies f (length b)
       study-lies = subst (λ (x : Fields). Lies x (length b)) (sym at) (read-lies small (no-fault b ok) r own study-few)
 
-      pub study-wrote : (l k o : List ℕ) (p q : ℕ) → Wrote 77 l 0 (headLine (r .nx) (r .ny) (r .nz) (r .clock .steps) (r .«material_count»)) k p →
-          Wrote (135 * r .nx * r .ny * r .nz) k p (gridAt b f (r .nx) (r .ny) (r .nz)) o q → Wrote 8717 l 0 (studyLines (readRecord b) (readStores b)) o q
+      pub study-wrote : (l k o : List ℕ) (p q : ℕ) → TextPut 77 l 0 (headLine (r .nx) (r .ny) (r .nz) (r .clock .steps) (r .«material_count»)) k p →
+          TextPut (135 * r .nx * r .ny * r .nz) k p (gridText b f (r .nx) (r .ny) (r .nz)) o q → TextPut 8717 l 0 (studyLines (readRecord b) (readStores b)) o q
       study-wrote l k o p q v w =
-          let grid = subst (λ (x : Fields). Wrote (135 * r .nx * r .ny * r .nz) k p (gridAt b x (r .nx) (r .ny) (r .nz)) o q) at w in
-          subst (λ (t : List ℕ). Wrote 8717 l 0 t o q) (study-lines r own)
+          let grid = subst (λ (x : Fields). TextPut (135 * r .nx * r .ny * r .nz) k p (gridText b x (r .nx) (r .ny) (r .nz)) o q) at w in
+          subst (λ (t : List ℕ). TextPut 8717 l 0 t o q) (study-lines r own)
           (wrote-wider _ 8717 l o 0 q _ (omega (arith, study-most)) (wrote-then 77 _ l k o 0 p q _ _ v grid))

@@ -11,7 +11,7 @@ use Rattle.codec.specs.Lists.{put}
 use Rattle.codec.proofs.Lists.{put-nil, put-one, put-next, put-length}
 use Rattle.cells.specs.Cells.{joined}
 use Rattle.lines.specs.Listing.{glyph, hexDigits, decimal, ended}
-use Rattle.lines.specs.Places.{Wrote}
+use Rattle.lines.specs.Inner.Places.{TextPut}
 use Rattle.lines.proofs.Numerals.{hex-long, hex-none, hex-more, decimal-one, decimal-more, one-long, more-long, ten-digits}
 
 -- one byte after a text
@@ -58,12 +58,12 @@ decimal-next l k at n p d h r w q =
 
 -- ---- a text and what ends it
 pub wrote-ended : (most : ℕ) (l k : List ℕ) (at p end next : ℕ) (text : List ℕ) → k ≡ put l at text → p ≡ at + length text → length text + 1 ≤ most →
-    at + most ≤ length l → next ≡ p + 1 → Wrote most l at (ended end text) (set k p end) next
+    at + most ≤ length l → next ≡ p + 1 → TextPut most l at (ended end text) (set k p end) next
 wrote-ended most l k at p end next text e q s r n =
     let long : length (ended end text) ≡ length text + 1 = length-append text (end ∷ []) in
     record { is = one-more l k at p end text e q (omega arith); ends = omega arith; short = omega arith; room = omega arith }
 
-pub wrote-number : (l k : List ℕ) (at p end n : ℕ) → n < 4294967296 → at + 11 ≤ length l → Spelt l at n k p → Wrote 11 l at (ended end (decimal n)) (set k p end) (p + 1)
+pub wrote-number : (l k : List ℕ) (at p end n : ℕ) → n < 4294967296 → at + 11 ≤ length l → Spelt l at n k p → TextPut 11 l at (ended end (decimal n)) (set k p end) (p + 1)
 wrote-number l k at p end n h r w =
     wrote-ended 11 l k at p end (p + 1) (decimal n) (w .1) (w .0) (omega (arith, ten-digits n h)) r refl
 
@@ -92,7 +92,7 @@ pub copied-all : (l new : List ℕ) (at : ℕ) (word : List ℕ) (i : ℕ) → l
 copied-all l new at word i h k = k .is ∙ ap (put l at) (take-all i word h)
 
 -- ---- one text after another
-pub wrote-then : (a b : ℕ) (l k o : List ℕ) (at p q : ℕ) (s t : List ℕ) → Wrote a l at s k p → Wrote b k p t o q → Wrote (a + b) l at (s ++ t) o q
+pub wrote-then : (a b : ℕ) (l k o : List ℕ) (at p q : ℕ) (s t : List ℕ) → TextPut a l at s k p → TextPut b k p t o q → TextPut (a + b) l at (s ++ t) o q
 wrote-then a b l k o at p q s t v w =
     let same : length k ≡ length l = ap length (v .is) ∙ put-length l at s (omega (arith, v .ends, v .room)) in
     let long : length (s ++ t) ≡ length s + length t = length-append s t in
@@ -107,7 +107,7 @@ wrote-then a b l k o at p q s t v w =
       room = omega (arith, w .room, same);
     }
 
-pub wrote-wider : (a b : ℕ) (l o : List ℕ) (at q : ℕ) (t : List ℕ) → a ≤ b → Wrote a l at t o q → Wrote b l at t o q
+pub wrote-wider : (a b : ℕ) (l o : List ℕ) (at q : ℕ) (t : List ℕ) → a ≤ b → TextPut a l at t o q → TextPut b l at t o q
 wrote-wider a b l o at q t h w = record { is = w .is; ends = w .ends; short = omega (arith, w .short); room = w .room }
 
 -- ---- many texts one after another, each of at most m bytes
@@ -118,14 +118,14 @@ turn-fits m n i h = omega (arith, mul-suc m i, mul-le-mul-left m h)
 pub record Turned (m : ℕ) (l : List ℕ) (at n : ℕ) (g : ℕ → List ℕ) (new : List ℕ) (p i : ℕ) : Type 0 where
   pub within : i ≤ n
   pub size : length new ≡ length l
-  pub wrote : Wrote (m * i) l at (joined i g) new p
+  pub wrote : TextPut (m * i) l at (joined i g) new p
 
 pub turned-none : (m : ℕ) (l : List ℕ) (at n : ℕ) (g : ℕ → List ℕ) → at ≤ length l → Turned m l at n g l at 0
 unfolding joined
 turned-none m l at n g h =
     record { within = omega arith; size = refl; wrote = record { is = sym (put-nil l at); ends = omega arith; short = omega arith; room = h } }
 
-pub turned-more : (m : ℕ) (l k o : List ℕ) (at n p q i : ℕ) (g : ℕ → List ℕ) → i < n → Turned m l at n g k p i → Wrote m k p (g i) o q → length o ≡ length k →
+pub turned-more : (m : ℕ) (l k o : List ℕ) (at n p q i : ℕ) (g : ℕ → List ℕ) → i < n → Turned m l at n g k p i → TextPut m k p (g i) o q → length o ≡ length k →
     Turned m l at n g o q (i + 1)
 unfolding joined
 turned-more m l k o at n p q i g h v w e =
@@ -134,8 +134,8 @@ turned-more m l k o at n p q i g h v w e =
     record {
       within = omega arith;
       size = e ∙ v .size;
-      wrote = subst (λ (t : List ℕ). Wrote (m * (i + 1)) l at t o q) more (subst (λ (a : ℕ). Wrote a l at (joined i g ++ g i) o q) most (wrote-then (m * i) m l k o at p q (joined i g) (g i) (v .wrote) w));
+      wrote = subst (λ (t : List ℕ). TextPut (m * (i + 1)) l at t o q) more (subst (λ (a : ℕ). TextPut a l at (joined i g ++ g i) o q) most (wrote-then (m * i) m l k o at p q (joined i g) (g i) (v .wrote) w));
     }
 
-pub turned-all : (m : ℕ) (l k : List ℕ) (at n p i : ℕ) (g : ℕ → List ℕ) → n ≤ i → Turned m l at n g k p i → Wrote (m * n) l at (joined n g) k p
-turned-all m l k at n p i g h v = let e : i ≡ n = omega (arith, v .within) in subst (λ (j : ℕ). Wrote (m * j) l at (joined j g) k p) e (v .wrote)
+pub turned-all : (m : ℕ) (l k : List ℕ) (at n p i : ℕ) (g : ℕ → List ℕ) → n ≤ i → Turned m l at n g k p i → TextPut (m * n) l at (joined n g) k p
+turned-all m l k at n p i g h v = let e : i ≡ n = omega (arith, v .within) in subst (λ (j : ℕ). TextPut (m * j) l at (joined j g) k p) e (v .wrote)

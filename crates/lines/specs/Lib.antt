@@ -1,3 +1,3 @@
 -- What the contracts of lines cite.
 pub mod Listing
-pub mod Places
+pub mod Inner

@@ -8,7 +8,7 @@ use Rattle.cells.specs.Cells.{joined, cellIndex}
 use Rattle.grid.specs.declared.Record.{Record}
 use Rattle.grid.specs.Fault.{first}
 use Rattle.grid.specs.Stores.{Stores, cells, badStore, numberAt, lentFault}
-use Rattle.heads.specs.Numbers.{bits}
+use Rattle.codec.specs.Bytes.{bits}
 use Rattle.format.specs.Rewind.{bytesFault, readRecord, readStores}
 
 -- ---- numbers

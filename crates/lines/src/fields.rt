@@ -4,9 +4,8 @@ ghost use Prim.Native.Nat.{_+_, _*_, _≤_, _<_};
 ghost use lib.ListN.{length};
 ghost use lib.Ieee.{binary64, ofBits};
 ghost use Rattle.codec.specs.Lists.{part};
-ghost use Rattle.codec.specs.Bytes.{unle};
-ghost use Rattle.heads.specs.Numbers.{bits};
-ghost use Rattle.lines.specs.Places.{Wrote, Lies, threeAt, cellAt, rowAt, planeAt, gridAt};
+ghost use Rattle.codec.specs.Bytes.{unle, bits};
+ghost use Rattle.lines.specs.Inner.Places.{TextPut, Lies, threeText, cellText, rowText, planeText, gridText};
 use crate::text;
 use codec::floats;
 use codec::numbers;
@@ -37,7 +36,7 @@ fn put_three(
     end: u8,
 ) -> usize
     requires { ⌜ (from + 24 * cells ≤ length (now b)) × (cells ≤ 64) × (m < cells) × (at + 51 ≤ length (now out)) ⌝ }
-    ensures { λ p. ⌜ Wrote 51 (now (out .entry)) at (threeAt (now (b .entry)) from cells m end) (now (out .exit)) p ⌝ }
+    ensures { λ p. ⌜ TextPut 51 (now (out .entry)) at (threeText (now (b .entry)) from cells m end) (now (out .exit)) p ⌝ }
 {
     let x = bits_at(b, from + 8 * m);
     let y = bits_at(b, from + 8 * (cells + m));
@@ -58,7 +57,7 @@ fn put_cell(
     m: usize,
 ) -> usize
     requires { ⌜ Lies f (length (now b)) × (i < 512) × (j < 512) × (k < 512) × (m < f .cells) × (at + 135 ≤ length (now out)) ⌝ }
-    ensures { λ p. ⌜ Wrote 135 (now (out .entry)) at (cellAt (now (b .entry)) f i j k m) (now (out .exit)) p ⌝ }
+    ensures { λ p. ⌜ TextPut 135 (now (out .entry)) at (cellText (now (b .entry)) f i j k m) (now (out .exit)) p ⌝ }
 {
     let p = text::put_number(out, at, i as u32, text::BLANK);
     let q = text::put_number(out, p, j as u32, text::BLANK);
@@ -79,7 +78,7 @@ fn put_row(
     m: usize,
 ) -> usize
     requires { ⌜ Lies f (length (now b)) × (nx ≤ 512) × (j < 512) × (k < 512) × (m + nx ≤ f .cells) × (at + 135 * nx ≤ length (now out)) ⌝ }
-    ensures { λ p. ⌜ Wrote (135 * nx) (now (out .entry)) at (rowAt (now (b .entry)) f nx j k m) (now (out .exit)) p ⌝ }
+    ensures { λ p. ⌜ TextPut (135 * nx) (now (out .entry)) at (rowText (now (b .entry)) f nx j k m) (now (out .exit)) p ⌝ }
 {
     let mut p = at;
     let mut i = 0;
@@ -102,7 +101,7 @@ fn put_plane(
     m: usize,
 ) -> usize
     requires { ⌜ Lies f (length (now b)) × (nx ≤ 512) × (ny ≤ 512) × (k < 512) × (m + nx * ny ≤ f .cells) × (at + 135 * nx * ny ≤ length (now out)) ⌝ }
-    ensures { λ p. ⌜ Wrote (135 * nx * ny) (now (out .entry)) at (planeAt (now (b .entry)) f nx ny k m) (now (out .exit)) p ⌝ }
+    ensures { λ p. ⌜ TextPut (135 * nx * ny) (now (out .entry)) at (planeText (now (b .entry)) f nx ny k m) (now (out .exit)) p ⌝ }
 {
     let mut p = at;
     let mut j = 0;
@@ -123,7 +122,7 @@ pub fn put_grid(
     nz: usize,
 ) -> usize
     requires { ⌜ Lies f (length (now b)) × (nx ≤ 512) × (ny ≤ 512) × (nz ≤ 512) × (nx * ny * nz ≤ f .cells) × (at + 135 * nx * ny * nz ≤ length (now out)) ⌝ }
-    ensures { λ p. ⌜ Wrote (135 * nx * ny * nz) (now (out .entry)) at (gridAt (now (b .entry)) f nx ny nz) (now (out .exit)) p ⌝ }
+    ensures { λ p. ⌜ TextPut (135 * nx * ny * nz) (now (out .entry)) at (gridText (now (b .entry)) f nx ny nz) (now (out .exit)) p ⌝ }
 {
     let mut p = at;
     let mut k = 0;

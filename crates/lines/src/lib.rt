@@ -6,16 +6,18 @@ ghost use mathlib.Core.Path.{_≡_};
 ghost use Prim.Native.Nat.{_≤_};
 ghost use lib.ListN.{length};
 ghost use Rattle.codec.specs.Lists.{put};
-ghost use Rattle.grid.specs.Sound.{Sound};
+ghost use Rattle.grid.specs.Inner.Sound.{Sound};
 ghost use Rattle.format.specs.Rewind.{readRecord, readStores};
 ghost use Rattle.lines.specs.Listing.{fitsListing, listFault, headLine, studyLines, refusedLine, listing};
-ghost use Rattle.lines.specs.Places.{Wrote, sizesText, fieldsOf};
+ghost use Rattle.lines.specs.Inner.Places.{TextPut, sizesText, fieldsOf};
 use fields::Fields;
 use grid::Record;
 use grid::fault;
 use grid::stores;
+use heads::ML_LENGTH;
 use saves::gets;
 use saves::judge;
+use saves::puts::ENTRIES_PLACE;
 
 pub const MOST_BYTES: usize = 24576;
 
@@ -50,7 +52,7 @@ fn list_fault(b: &[u8]) -> u32
 
 fn put_refusal(out: &mut [u8], f: u32) -> usize
     requires { ⌜ 19 ≤ length (now out) ⌝ }
-    ensures { λ n. ⌜ Wrote 19 (now (out .entry)) 0 (refusedLine f) (now (out .exit)) n ⌝ }
+    ensures { λ n. ⌜ TextPut 19 (now (out .entry)) 0 (refusedLine f) (now (out .exit)) n ⌝ }
 {
     let p = text::put_word(out, 0, b"refused", text::BLANK);
     text::put_number(out, p, f, text::NEWLINE)
@@ -58,7 +60,7 @@ fn put_refusal(out: &mut [u8], f: u32) -> usize
 
 fn put_sizes(out: &mut [u8], nx: u32, ny: u32, nz: u32) -> usize
     requires { ⌜ 39 ≤ length (now out) ⌝ }
-    ensures { λ n. ⌜ Wrote 39 (now (out .entry)) 0 (sizesText nx ny nz) (now (out .exit)) n ⌝ }
+    ensures { λ n. ⌜ TextPut 39 (now (out .entry)) 0 (sizesText nx ny nz) (now (out .exit)) n ⌝ }
 {
     let p = text::put_word(out, 0, b"study", text::BLANK);
     let q = text::put_number(out, p, nx, text::BLANK);
@@ -68,7 +70,7 @@ fn put_sizes(out: &mut [u8], nx: u32, ny: u32, nz: u32) -> usize
 
 fn put_head(out: &mut [u8], nx: u32, ny: u32, nz: u32, steps: u32, materials: u32) -> usize
     requires { ⌜ 77 ≤ length (now out) ⌝ }
-    ensures { λ n. ⌜ Wrote 77 (now (out .entry)) 0 (headLine nx ny nz steps materials) (now (out .exit)) n ⌝ }
+    ensures { λ n. ⌜ TextPut 77 (now (out .entry)) 0 (headLine nx ny nz steps materials) (now (out .exit)) n ⌝ }
 {
     let p = put_sizes(out, nx, ny, nz);
     let q = text::put_word(out, p, b"steps", text::BLANK);
@@ -83,7 +85,7 @@ fn fields_of(r: Record) -> Fields
     ensures { λ f. ⌜ f ≡ fieldsOf r ⌝ }
 {
     let n = r.nx * r.ny * r.nz;
-    let at = 85 + 125 * r.material_count;
+    let at = ENTRIES_PLACE + ML_LENGTH * r.material_count;
     Fields {
         electric: at + (18 + 28 * n),
         magnetic: at + (24 + 52 * n),
@@ -93,7 +95,7 @@ fn fields_of(r: Record) -> Fields
 
 fn put_study(out: &mut [u8], b: &[u8]) -> usize
     requires { ⌜ (listFault (now b) ≡ 0) × (8717 ≤ length (now out)) ⌝ }
-    ensures { λ n. ⌜ Wrote 8717 (now (out .entry)) 0 (studyLines (readRecord (now (b .entry))) (readStores (now (b .entry)))) (now (out .exit)) n ⌝ }
+    ensures { λ n. ⌜ TextPut 8717 (now (out .entry)) 0 (studyLines (readRecord (now (b .entry))) (readStores (now (b .entry)))) (now (out .exit)) n ⌝ }
 {
     let r = gets::get_record(b);
     let f = fields_of(r);

@@ -4,7 +4,7 @@ ghost use Prim.Native.Nat.{_+_, _≤_, _<_};
 ghost use lib.ListN.{length};
 ghost use Rattle.codec.specs.Lists.{put};
 ghost use Rattle.lines.specs.Listing.{glyph, hexDigits, hex, decimal, ended};
-ghost use Rattle.lines.specs.Places.{Wrote};
+ghost use Rattle.lines.specs.Inner.Places.{TextPut};
 
 pub const BLANK: u8 = 32;
 
@@ -48,7 +48,7 @@ fn put_decimal(out: &mut [u8], at: usize, n: u32) -> usize
 
 pub fn put_number(out: &mut [u8], at: usize, n: u32, end: u8) -> usize
     requires { ⌜ at + 11 ≤ length (now out) ⌝ }
-    ensures { λ p. ⌜ Wrote 11 (now (out .entry)) at (ended end (decimal n)) (now (out .exit)) p ⌝ }
+    ensures { λ p. ⌜ TextPut 11 (now (out .entry)) at (ended end (decimal n)) (now (out .exit)) p ⌝ }
 {
     let p = put_decimal(out, at, n);
     out[p] = end;
@@ -57,7 +57,7 @@ pub fn put_number(out: &mut [u8], at: usize, n: u32, end: u8) -> usize
 
 pub fn put_bits(out: &mut [u8], at: usize, n: u64, end: u8) -> usize
     requires { ⌜ at + 17 ≤ length (now out) ⌝ }
-    ensures { λ p. ⌜ Wrote 17 (now (out .entry)) at (ended end (hex n)) (now (out .exit)) p ⌝ }
+    ensures { λ p. ⌜ TextPut 17 (now (out .entry)) at (ended end (hex n)) (now (out .exit)) p ⌝ }
 {
     put_hex(out, at, 16, n);
     out[at + 16] = end;
@@ -66,7 +66,7 @@ pub fn put_bits(out: &mut [u8], at: usize, n: u64, end: u8) -> usize
 
 pub fn put_word(out: &mut [u8], at: usize, word: &[u8], end: u8) -> usize
     requires { ⌜ at + (length (now word) + 1) ≤ length (now out) ⌝ }
-    ensures { λ p. ⌜ Wrote (length (now (word .entry)) + 1) (now (out .entry)) at (ended end (now (word .entry))) (now (out .exit)) p ⌝ }
+    ensures { λ p. ⌜ TextPut (length (now (word .entry)) + 1) (now (out .entry)) at (ended end (now (word .entry))) (now (out .exit)) p ⌝ }
 {
     let n = word.len();
     let mut i = 0;

@@ -10,13 +10,13 @@ use lib.ListN.{getD}
 use lib.Ieee.{Float, nan}
 use Rattle.fdtd.specs.declared.Axis.{Axis}
 use Rattle.fdtd.specs.declared.rows.Side.{Side}
-use Rattle.fdtd.specs.Yee.{movesH, magnetic}
-use Rattle.fdtd.specs.Rows.{memOf}
-use Rattle.fdtd.specs.Span.{Span, Two}
+use Rattle.fdtd.specs.Yee.{movesH, updatedH}
+use Rattle.fdtd.specs.Inner.Rows.{sideMemory}
+use Rattle.fdtd.specs.Inner.Span.{Span, Two}
 use Rattle.fdtd.proofs.Spans.{span-as, span-more, span-kept}
 use Rattle.fdtd.proofs.Stands.{Stands}
 use Rattle.fdtd.proofs.Components.{at-curl, Memories, idle-mem, moved-mem}
-use Rattle.magnetic.specs.Row.{slopeOf, fieldOf, fieldH}
+use Rattle.magnetic.specs.Inner.Row.{slopeOf, fieldOf, fieldH}
 
 -- over variables
 pub and-true : (x y : Bool) → x ≡ true → y ≡ true → (x && y) ≡ true
@@ -39,11 +39,11 @@ module _ (A B C : Axis) (count : ℕ) (e tab mem : List Float) (q i onB onC upB 
   at-h : (b c : Side) (n : ℕ) (scr h : List Float) → Stands b B C e tab mem (slopeOf b e n i) q i onB (q + i) upB (A .mem)
       → Stands c C B e tab mem (slopeOf c e n i) q i onC (q + i) upC (A .mem + count) → movesH B C onB onC ≡ true
       → fieldOf b c e tab mem scr h n (A .at + q) i ≡ fieldH A B C count e tab mem (q + i) onB onC upB upC (getD scr (1536 + i) nan) h
-  unfolding fieldOf fieldH magnetic
+  unfolding fieldOf fieldH updatedH
   at-h b c n scr h sb sc g = rw (at-curl A B C count e tab mem q i onB onC (q + i) upB (q + i) upC b c _ _ sb sc, add-assoc (A .at) q i) (pick-go _ _ _ g)
 
   stop-h : movesH B C onB onC ≡ false → (h : List Float) (f : Float) → getD h (A .at + q + i) nan ≡ fieldH A B C count e tab mem (q + i) onB onC upB upC f h
-  unfolding fieldH magnetic
+  unfolding fieldH updatedH
   stop-h g h f = rw (add-assoc (A .at) q i) (pick-stop _ _ _ g)
 
 module _ (A B C : Axis) (count : ℕ) (e tab mem scr h : List Float) (q n : ℕ) (onB onC upB upC : ℕ → ℕ) where
@@ -66,7 +66,7 @@ module _ (A B C : Axis) (count : ℕ) (e tab mem scr h : List Float) (q n : ℕ)
       (go : (i : ℕ) → i < m → movesH B C (onB i) (onC i) ≡ true)
       (stop : (i : ℕ) → m ≤ i → i < n → movesH B C (onB i) (onC i) ≡ false)
       (hh : Span (fieldOf b c e tab mem scr h n (A .at + q)) h (A .at + q) 0 m h')
-      (mm : Two (λ i. memOf b tab mem i (slopeOf b e n i)) (λ i. memOf c tab mem i (slopeOf c e n i)) mem (b .mem) (c .mem) 0 m mem') where
+      (mm : Two (λ i. sideMemory b tab mem i (slopeOf b e n i)) (λ i. sideMemory c tab mem i (slopeOf c e n i)) mem (b .mem) (c .mem) 0 m mem') where
     pub moved : Moved h' mem'
     moved = (
       span-more _ _ _ _ (span-as _ _ _ _ hh (λ i u l. at-h A B C count e tab mem q i _ _ _ _ b c n scr h (sb i) (sc i) (go i l))) (omega arith) most

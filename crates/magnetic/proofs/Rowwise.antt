@@ -11,12 +11,12 @@ use Rattle.fdtd.specs.declared.turns.Turn.{Turn}
 use Rattle.fdtd.specs.declared.turns.Spot.{Spot}
 use Rattle.fdtd.specs.Axes.{nextOf}
 use Rattle.fdtd.specs.Yee.{factor, movesH}
-use Rattle.fdtd.specs.Span.{Span, Top}
-use Rattle.fdtd.specs.Turns.{rowAt, spotOf, Laid}
+use Rattle.fdtd.specs.Inner.Span.{Span, Top}
+use Rattle.fdtd.specs.Inner.Turns.{rowAt, spotOf, Laid, onR, onS, onT}
 use Rattle.fdtd.proofs.Components.{curl-own, b-own, c-own}
 use Rattle.fdtd.proofs.Lines.{Right, line-law}
-use Rattle.magnetic.specs.Row.{fieldH, firstH, secondH}
-use Rattle.magnetic.specs.Swept.{Carried, madeOf, onR, onS, onT, upR, upS, upT}
+use Rattle.magnetic.specs.Inner.Row.{fieldH, firstH, secondH}
+use Rattle.magnetic.specs.Inner.Swept.{Carried, madeOf, upR, upS, upT}
 use Rattle.magnetic.proofs.Component.{Moved}
 
 -- a cell's new number hangs on the stores by its own numbers alone

@@ -11,34 +11,35 @@ use Rattle.fdtd.specs.declared.Coef.{Coef}
 use Rattle.fdtd.specs.declared.single.Shared.{Shared}
 use Rattle.fdtd.specs.declared.turns.Turn.{Turn}
 use Rattle.fdtd.specs.Axes.{nextOf, hasNext}
-use Rattle.fdtd.specs.Yee.{factor, coefAt, movesH, magnetic}
-use Rattle.fdtd.specs.Turns.{round, rowAt, Laid}
-use Rattle.fdtd.specs.Begun.{curlBy, firstBy, secondBy, Lone, Both, Moved, Known}
+use Rattle.fdtd.specs.Yee.{factor, coefAt, movesH, updatedH}
+use Rattle.fdtd.specs.Inner.Turns.{round, rowAt, Laid, onR, onS, onT}
+use Rattle.fdtd.specs.Inner.Begun.{Lone, Both, StoredBy, Known}
+use Rattle.fdtd.specs.Inner.Cell.{curlBy, firstBy, secondBy}
 use Rattle.fdtd.proofs.Singles.{lone-as, lone-kept, memories-go, memories-left, by-curl, own-memories}
 use Rattle.fdtd.proofs.Beside.{FairBy, cell-beside}
-use Rattle.magnetic.specs.Row.{fieldH}
-use Rattle.magnetic.specs.Swept.{madeOf, onR, onS, onT, upR, upS, upT}
-use Rattle.magnetic.specs.Celled.{fieldBy, ruleH, Moving}
+use Rattle.magnetic.specs.Inner.Row.{fieldH}
+use Rattle.magnetic.specs.Inner.Swept.{madeOf, upR, upS, upT}
+use Rattle.magnetic.specs.Inner.Celled.{fieldBy, ruleH, Moving}
 use Rattle.magnetic.proofs.Rowwise.{h-own}
 
 -- it moves, or it has no neighbour
 module _ (g : Turn) (e mem : List Float) (cell upB upC : ℕ) (moves : Bool) (kb kc : Coef) (f : Float) (h : List Float) where
   go-field : moves ≡ true → {u : Float} → u ≡ curlBy (g .r) (g .s) (g .t) (g .count) e mem cell cell upB cell upC kb kc
       → getD h (g .r .at + cell) nan ⊖ f ⊗ u ≡ fieldBy (g .r) (g .s) (g .t) (g .count) e mem cell upB upC moves kb kc f h
-  unfolding fieldBy magnetic
+  unfolding fieldBy updatedH
   go-field go eu = rw (go, eu)
 
   stop-field : moves ≡ false → getD h (g .r .at + cell) nan ≡ fieldBy (g .r) (g .s) (g .t) (g .count) e mem cell upB upC moves kb kc f h
-  unfolding fieldBy magnetic
+  unfolding fieldBy updatedH
   stop-field stop = rw stop
 
   pub moved-on : moves ≡ true → {u : Float} {h' mem' : List Float} → u ≡ curlBy (g .r) (g .s) (g .t) (g .count) e mem cell cell upB cell upC kb kc
       → Lone (getD h (g .r .at + cell) nan ⊖ f ⊗ u) h (g .r .at + cell) h'
       → Both (firstBy (g .r) (g .s) (g .t) (g .count) e mem cell cell upB cell upC kb kc true) (secondBy (g .r) (g .s) (g .t) (g .count) e mem cell cell upB cell upC kb kc true) mem (g .r .mem + cell) (g .r .mem + g .count + cell) mem'
-      → Moved (ruleH e f) g cell upB upC moves kb kc h mem h' mem'
+      → StoredBy (ruleH e f) g cell upB upC moves kb kc h mem h' mem'
   moved-on go eu l b = (lone-as l (go-field go eu), memories-go (g .r) (g .s) (g .t) (g .count) e mem cell cell upB cell upC kb kc moves go b)
 
-  pub stood : moves ≡ false → Moved (ruleH e f) g cell upB upC moves kb kc h mem h mem
+  pub stood : moves ≡ false → StoredBy (ruleH e f) g cell upB upC moves kb kc h mem h mem
   stood stop = (lone-kept _ _ (stop-field stop), memories-left (g .r) (g .s) (g .t) (g .count) e mem cell cell upB cell upC kb kc moves stop)
 
 -- it is the definition's
@@ -68,9 +69,9 @@ module _ (mu0 : Float) (g : Turn) (e media tab : List Float) (s t i : ℕ) where
       {nr : ℕ} {gor b1 b2 b3 : Bool} {kr : Coef} {mu f : Float} {gs gt : Turn} (en : nr ≡ nextOf i (g .r .n)) (eg : gor ≡ hasNext (g .r) i) (ek : kr ≡ coefAt (g .r) tab i)
       (em : mu ≡ getD media (g .count + (w .q + i)) nan) (ef : f ≡ factor (g .dt) mu0 mu)
       (e1 : b1 ≡ (w .gos && w .got)) (e2 : b2 ≡ (w .got && gor)) (e3 : b3 ≡ (gor && w .gos)) (es : gs ≡ round g) (et : gt ≡ round gs)
-      (one : Moved (ruleH e f) g (w .q + i) (w .bs + i) (w .bt + i) b1 (w .ks) (w .kt) h m h1 m1)
-      (two : Moved (ruleH e f) gs (w .q + i) (w .bt + i) (w .q + nr) b2 (w .kt) kr h1 m1 h2 m2)
-      (three : Moved (ruleH e f) gt (w .q + i) (w .q + nr) (w .bs + i) b3 kr (w .ks) h2 m2 h3 m3) where
+      (one : StoredBy (ruleH e f) g (w .q + i) (w .bs + i) (w .bt + i) b1 (w .ks) (w .kt) h m h1 m1)
+      (two : StoredBy (ruleH e f) gs (w .q + i) (w .bt + i) (w .q + nr) b2 (w .kt) kr h1 m1 h2 m2)
+      (three : StoredBy (ruleH e f) gt (w .q + i) (w .q + nr) (w .bs + i) b3 kr (w .ks) h2 m2 h3 m3) where
     at-f : f ≡ facH
     at-f = ef ∙ ap (λ (x : Float). factor (g .dt) mu0 x) (em ∙ ap (λ (x : Shared). getD media (g .count + (x .q + i)) nan) (known .is))
 

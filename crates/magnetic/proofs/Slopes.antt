@@ -1,6 +1,6 @@
 -- The derivatives that the passes take are the row's: at a cell that is not the last, at the last, and across. Assumes nothing.
 use mathlib.Core.Path.{_≡_, refl, sym, _∙_, ap, subst}
-use mathlib.Core.Bool.{Bool, true, false, cond}
+use mathlib.Core.Bool.{Bool, true, false, cond, _||_}
 use mathlib.Core.List.{List}
 use Prim.Native.Nat.{ℕ, _+_, _-_, _≤_, _<_}
 use native.Mathlib.Nat.{add-assoc}
@@ -14,8 +14,8 @@ use Rattle.fdtd.specs.declared.rows.Side.{Side}
 use Rattle.fdtd.specs.declared.turns.Run.{Run}
 use Rattle.fdtd.specs.Axes.{nextOf}
 use Rattle.fdtd.specs.Yee.{slope, derivative}
-use Rattle.fdtd.specs.Turns.{acrossOf, alongOf, Lull}
-use Rattle.magnetic.specs.Row.{nextAt, slopeOf, Ready}
+use Rattle.fdtd.specs.Inner.Turns.{sideAcross, sideAlong, Lull}
+use Rattle.magnetic.specs.Inner.Row.{nextAt, slopeOf, NextRun}
 
 next-inner : (b : Bool) (own other i n : ℕ) → i + 1 < n → cond b (own + 1) other + i ≡ cond b (own + nextOf i n) (other + i)
 next-inner true own other i n h = rw (lt-ltb (i + 1) n h) (omega arith)
@@ -65,31 +65,31 @@ neither-y false y p = p
 
 -- the derivatives of the two kinds of side, by the cells' places
 module _ (w v : Axis) (e tab : List Float) (n q i p a z up mem : ℕ) where
-  across' : slopeOf (acrossOf w tab p a z (v .at + q) (v .at + up) mem) e n i ≡ derivative w v e (q + i) (up + i)
+  across' : slopeOf (sideAcross w tab p a z (v .at + q) (v .at + up) mem) e n i ≡ derivative w v e (q + i) (up + i)
   unfolding slopeOf nextAt
   across' = rw (add-assoc (v .at) q i, add-assoc (v .at) up i)
 
-  pub across-slope : {s : Side} → s ≡ acrossOf w tab p a z (v .at + q) (v .at + up) mem → slopeOf s e n i ≡ derivative w v e (q + i) (up + i)
+  pub across-slope : {s : Side} → s ≡ sideAcross w tab p a z (v .at + q) (v .at + up) mem → slopeOf s e n i ≡ derivative w v e (q + i) (up + i)
   across-slope r = rw r across'
 
 module _ (w v : Axis) (e : List Float) (q i : ℕ) (run : Run) (mem : ℕ) where
-  along' : slopeOf (alongOf w run (v .at + q) mem) e (w .n) i ≡ derivative w v e (q + i) (q + nextOf i (w .n))
+  along' : slopeOf (sideAlong w run (v .at + q) mem) e (w .n) i ≡ derivative w v e (q + i) (q + nextOf i (w .n))
   unfolding slopeOf nextAt
   along' = rw (add-assoc (v .at) q i, add-assoc (v .at) q (nextOf i (w .n)))
 
-  pub along-slope : {s : Side} → s ≡ alongOf w run (v .at + q) mem → slopeOf s e (w .n) i ≡ derivative w v e (q + i) (q + nextOf i (w .n))
+  pub along-slope : {s : Side} → s ≡ sideAlong w run (v .at + q) mem → slopeOf s e (w .n) i ≡ derivative w v e (q + i) (q + nextOf i (w .n))
   along-slope r = rw r along'
 
 -- which cells have one after them
-always : (b : Bool) → cond b true true ≡ true
+always : (b : Bool) → (b || true) ≡ true
 always true = refl
 always false = refl
 
-pub reach-in : (b : Bool) (i n end : ℕ) → end ≡ cond b n (n - 1) → i < end → cond (ltb (i + 1) n) true b ≡ true
+pub reach-in : (b : Bool) (i n end : ℕ) → end ≡ cond b n (n - 1) → i < end → (ltb (i + 1) n || b) ≡ true
 reach-in true i n end e h = always (ltb (i + 1) n)
 reach-in false i n end e h = rw (lt-ltb (i + 1) n (omega arith))
 
-pub reach-out : (b : Bool) (i n end : ℕ) → end ≡ cond b n (n - 1) → end ≤ i → i < n → cond (ltb (i + 1) n) true b ≡ false
+pub reach-out : (b : Bool) (i n end : ℕ) → end ≡ cond b n (n - 1) → end ≤ i → i < n → (ltb (i + 1) n || b) ≡ false
 reach-out true i n end e h l = absurd (omega arith)
 reach-out false i n end e h l = rw (le-ltb (i + 1) n (omega arith))
 
@@ -97,5 +97,5 @@ pub reach-le : (b : Bool) (n end : ℕ) → end ≡ cond b n (n - 1) → end ≤
 reach-le true n end e = omega arith
 reach-le false n end e = omega arith
 
-pub ready-of : {w : Axis} {tab : List Float} {z : ℕ} {run : Run} → Lull w tab 0 z run → z ≡ cond (w .wraps) (w .n) (w .n - 1) → Ready w tab run
+pub ready-of : {w : Axis} {tab : List Float} {z : ℕ} {run : Run} → Lull w tab 0 z run → z ≡ cond (w .wraps) (w .n) (w .n - 1) → NextRun w tab run
 ready-of {w} {tab} {z} {run} l e = record { lull = subst (λ (x : ℕ). Lull w tab 0 x run) (sym (l .ends)) l; ends = l .ends ∙ e }

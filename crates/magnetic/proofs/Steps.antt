@@ -15,12 +15,13 @@ use Rattle.fdtd.specs.declared.Axis.{Axis}
 use Rattle.fdtd.specs.declared.turns.Turn.{Turn}
 use Rattle.fdtd.specs.Axes.{axis, nextOf}
 use Rattle.fdtd.specs.Yee.{factor}
+use Rattle.fdtd.specs.Inner.Cell.{curlOn, firstOn, secondOn}
 use Rattle.fdtd.specs.Halves.{halfH, movesAt, curlAt, firstAfter, secondAfter, psiAfter, magneticAt, magneticAfter}
-use Rattle.fdtd.specs.Turns.{turnX, turnY, turnZ, turnFor}
+use Rattle.fdtd.specs.Inner.Turns.{turnX, turnY, turnZ, turnFor}
 use Rattle.fdtd.proofs.Fits.{next-less}
 use Rattle.fdtd.proofs.Grids.{All, inX, inY, inZ, Of, field-is, memories-are}
-use Rattle.magnetic.specs.Row.{fieldH, firstH, secondH}
-use Rattle.magnetic.specs.Swept.{Swept}
+use Rattle.magnetic.specs.Inner.Row.{fieldH, firstH, secondH}
+use Rattle.magnetic.specs.Inner.Swept.{Swept}
 
 module _ (mu0 : Float) (r : Record) (e media tab h m h' m' : List Float) where
   -- what is made of a cell's number and of its memories
@@ -49,16 +50,16 @@ module _ (mu0 : Float) (r : Record) (e media tab h m h' m' : List Float) where
 
   -- they are the definition's
   field-same : (a i j k : ℕ) → axis r 3 a .at ≡ a * cells r → Of r 3 nextOf F a i j k ≡ magneticAt mu0 r e media tab m h a i j k
-  unfolding magneticAt movesAt curlAt fieldH
+  unfolding magneticAt movesAt curlAt curlOn fieldH
   field-same a i j k p =
       let one : cells r + cellIndex (r .nx) (r .ny) i j k ≡ 1 * cells r + cellIndex (r .nx) (r .ny) i j k = omega arith in rw (one, p)
 
   first-same : (a i j k : ℕ) → Of r 3 nextOf G a i j k ≡ firstAfter halfH r e tab m a i j k
-  unfolding firstAfter movesAt
+  unfolding firstAfter firstOn movesAt
   first-same a i j k = refl
 
   second-same : (a i j k : ℕ) → Of r 3 nextOf K a i j k ≡ secondAfter halfH r e tab m a i j k
-  unfolding secondAfter movesAt
+  unfolding secondAfter secondOn movesAt
   second-same a i j k = refl
 
   module _ (lh : length h ≡ 3 * cells r) (lm : length m ≡ 6 * cells r) (g : Turn) (p : g ≡ turnFor r 3)

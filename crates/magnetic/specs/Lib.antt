@@ -1,4 +1,2 @@
 -- What the contracts of the magnetic half step cite.
-pub mod Row
-pub mod Swept
-pub mod Celled
+pub mod Inner

@@ -7,14 +7,14 @@ ghost use mathlib.Core.Bool.{cond};
 ghost use Prim.Native.Nat.{_+_, _*_, _-_, _≤_, _<_};
 ghost use lib.ListN.{length, getD};
 ghost use lib.Ieee.{nan};
-ghost use Rattle.grid.specs.Sound.{Sound};
+ghost use Rattle.grid.specs.Inner.Sound.{Sound};
 ghost use Rattle.grid.specs.Stores.{cells};
 ghost use Rattle.fdtd.specs.Axes.{nextOf};
 ghost use Rattle.fdtd.specs.Halves.{halfH, psiAfter, magneticAfter};
-ghost use Rattle.fdtd.specs.Span.{Span, Two, Top};
-ghost use Rattle.fdtd.specs.Turns.{Fit, Laid};
-ghost use Rattle.magnetic.specs.Row.{fieldH, firstH, secondH, Ready};
-ghost use Rattle.magnetic.specs.Swept.{Swept, Carried};
+ghost use Rattle.fdtd.specs.Inner.Span.{Span, Two, Top};
+ghost use Rattle.fdtd.specs.Inner.Turns.{Fit, Laid};
+ghost use Rattle.magnetic.specs.Inner.Row.{fieldH, firstH, secondH, NextRun};
+ghost use Rattle.magnetic.specs.Inner.Swept.{Swept, Carried};
 use fdtd::single;
 use fdtd::turns;
 use fdtd::turns::Run;
@@ -73,7 +73,7 @@ fn comp_s(
     requires { ⌜ Fit g (now e) (now tab) (now mem) (now h) ⌝ }
     requires { ⌜ (p .s < g .s .n) × (p .t < g .t .n) × (length (now scr) ≡ 2048) ⌝ }
     requires { ⌜ (p .q + g .r .n ≤ g .count) × (p .bs + g .r .n ≤ g .count) × (p .bt + g .r .n ≤ g .count) ⌝ }
-    requires { ⌜ Ready (g .r) (now tab) run ⌝ }
+    requires { ⌜ NextRun (g .r) (now tab) run ⌝ }
     ensures { λ _. ⌜ Span (λ i. fieldH (g .s) (g .t) (g .r) (g .count) (now (e .entry)) (now (tab .entry)) (now (mem .entry)) (p .q + i) (p .t) i (p .bt + i) (p .q + nextOf i (g .r .n)) (getD (now (scr .entry)) (1536 + i) nan) (now (h .entry))) (now (h .entry)) (g .s .at + p .q) 0 (g .r .n) (now (h .exit)) ⌝ }
     ensures { λ _. ⌜ Two (λ i. firstH (g .s) (g .t) (g .r) (g .count) (now (e .entry)) (now (tab .entry)) (now (mem .entry)) (p .q + i) (p .t) i (p .bt + i) (p .q + nextOf i (g .r .n))) (λ i. secondH (g .s) (g .t) (g .r) (g .count) (now (e .entry)) (now (tab .entry)) (now (mem .entry)) (p .q + i) (p .t) i (p .bt + i) (p .q + nextOf i (g .r .n))) (now (mem .entry)) (g .s .mem + p .q) (g .s .mem + g .count + p .q) 0 (g .r .n) (now (mem .exit)) ⌝ }
     ensures { λ _. ⌜ Top (now (scr .entry)) 1536 (now (scr .exit)) ⌝ }
@@ -108,7 +108,7 @@ fn comp_t(
     requires { ⌜ Fit g (now e) (now tab) (now mem) (now h) ⌝ }
     requires { ⌜ (p .s < g .s .n) × (p .t < g .t .n) × (length (now scr) ≡ 2048) ⌝ }
     requires { ⌜ (p .q + g .r .n ≤ g .count) × (p .bs + g .r .n ≤ g .count) × (p .bt + g .r .n ≤ g .count) ⌝ }
-    requires { ⌜ Ready (g .r) (now tab) run ⌝ }
+    requires { ⌜ NextRun (g .r) (now tab) run ⌝ }
     ensures { λ _. ⌜ Span (λ i. fieldH (g .t) (g .r) (g .s) (g .count) (now (e .entry)) (now (tab .entry)) (now (mem .entry)) (p .q + i) i (p .s) (p .q + nextOf i (g .r .n)) (p .bs + i) (getD (now (scr .entry)) (1536 + i) nan) (now (h .entry))) (now (h .entry)) (g .t .at + p .q) 0 (g .r .n) (now (h .exit)) ⌝ }
     ensures { λ _. ⌜ Two (λ i. firstH (g .t) (g .r) (g .s) (g .count) (now (e .entry)) (now (tab .entry)) (now (mem .entry)) (p .q + i) i (p .s) (p .q + nextOf i (g .r .n)) (p .bs + i)) (λ i. secondH (g .t) (g .r) (g .s) (g .count) (now (e .entry)) (now (tab .entry)) (now (mem .entry)) (p .q + i) i (p .s) (p .q + nextOf i (g .r .n)) (p .bs + i)) (now (mem .entry)) (g .t .mem + p .q) (g .t .mem + g .count + p .q) 0 (g .r .n) (now (mem .exit)) ⌝ }
     ensures { λ _. ⌜ Top (now (scr .entry)) 1536 (now (scr .exit)) ⌝ }
@@ -145,7 +145,7 @@ fn line(
 )
     requires { ⌜ Fit g (now e) (now tab) (now mem) (now h) ⌝ }
     requires { ⌜ Laid g ⌝ }
-    requires { ⌜ Ready (g .r) (now tab) run ⌝ }
+    requires { ⌜ NextRun (g .r) (now tab) run ⌝ }
     requires { ⌜ (s < g .s .n) × (t < g .t .n) × (length (now scr) ≡ 2048) × (g .count + g .count ≤ length (now media)) ⌝ }
     ensures { λ _. ⌜ Carried mu0 g (now (e .entry)) (now (media .entry)) (now (tab .entry)) s t (now (h .entry)) (now (mem .entry)) (now (h .exit)) (now (mem .exit)) ⌝ }
 {
@@ -172,7 +172,7 @@ fn sweep(
 )
     requires { ⌜ Fit g (now e) (now tab) (now mem) (now h) ⌝ }
     requires { ⌜ Laid g ⌝ }
-    requires { ⌜ Ready (g .r) (now tab) run ⌝ }
+    requires { ⌜ NextRun (g .r) (now tab) run ⌝ }
     requires { ⌜ (length (now scr) ≡ 2048) × (g .count + g .count ≤ length (now media)) ⌝ }
     ensures { λ _. ⌜ Swept mu0 g (now (e .entry)) (now (media .entry)) (now (tab .entry)) (now (h .entry)) (now (mem .entry)) (g .t .n * g .s .n) (now (h .exit)) (now (mem .exit)) ⌝ }
 {

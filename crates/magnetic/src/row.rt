@@ -6,9 +6,9 @@ ghost use lib.ListN.{length, getD};
 ghost use lib.Ieee.{nan};
 ghost use Rattle.root.specs.Rounded.{_⊖_, _⊗_};
 ghost use Rattle.fdtd.specs.Yee.{factor};
-ghost use Rattle.fdtd.specs.Span.{Span, Two, Top, Trio};
-ghost use Rattle.fdtd.specs.Rows.{memOf, Calm, Room};
-ghost use Rattle.magnetic.specs.Row.{slopeOf, fieldOf};
+ghost use Rattle.fdtd.specs.Inner.Span.{Span, Two, Top, Trio};
+ghost use Rattle.fdtd.specs.Inner.Rows.{sideMemory, Calm, SideRoom};
+ghost use Rattle.magnetic.specs.Inner.Row.{slopeOf, fieldOf};
 use fdtd::rows;
 use fdtd::rows::Side;
 
@@ -99,11 +99,11 @@ pub fn row(
 )
     requires { ⌜ (1 ≤ n) × (n ≤ 512) × (m ≤ n) ⌝ }
     requires { ⌜ (q + n ≤ length (now h)) × (length (now scr) ≡ 2048) ⌝ }
-    requires { ⌜ Room b (now e) (now tab) (now mem) n × Room c (now e) (now tab) (now mem) n ⌝ }
+    requires { ⌜ SideRoom b (now e) (now tab) (now mem) n × SideRoom c (now e) (now tab) (now mem) n ⌝ }
     requires { ⌜ Calm b (now tab) 0 m × Calm c (now tab) 0 m ⌝ }
     requires { ⌜ b .mem + n ≤ c .mem ⌝ }
     ensures { λ _. ⌜ Span (fieldOf b c (now (e .entry)) (now (tab .entry)) (now (mem .entry)) (now (scr .entry)) (now (h .entry)) n q) (now (h .entry)) q 0 m (now (h .exit)) ⌝ }
-    ensures { λ _. ⌜ Two (λ i. memOf b (now (tab .entry)) (now (mem .entry)) i (slopeOf b (now (e .entry)) n i)) (λ i. memOf c (now (tab .entry)) (now (mem .entry)) i (slopeOf c (now (e .entry)) n i)) (now (mem .entry)) (b .mem) (c .mem) 0 m (now (mem .exit)) ⌝ }
+    ensures { λ _. ⌜ Two (λ i. sideMemory b (now (tab .entry)) (now (mem .entry)) i (slopeOf b (now (e .entry)) n i)) (λ i. sideMemory c (now (tab .entry)) (now (mem .entry)) i (slopeOf c (now (e .entry)) n i)) (now (mem .entry)) (b .mem) (c .mem) 0 m (now (mem .exit)) ⌝ }
     ensures { λ _. ⌜ Top (now (scr .entry)) 1536 (now (scr .exit)) ⌝ }
 {
     curls(scr, e, n, m, b, c);

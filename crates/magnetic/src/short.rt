@@ -2,10 +2,10 @@
 ghost use Prim.Native.Nat.{_+_, _*_, _≤_, _<_};
 ghost use lib.ListN.{length};
 ghost use Rattle.fdtd.specs.Axes.{nextOf, hasNext};
-ghost use Rattle.fdtd.specs.Begun.{Known, Moved, Near};
-ghost use Rattle.fdtd.specs.Turns.{Fit, Laid};
-ghost use Rattle.magnetic.specs.Celled.{ruleH, Moving};
-ghost use Rattle.magnetic.specs.Swept.{Swept, Carried};
+ghost use Rattle.fdtd.specs.Inner.Begun.{Known, StoredBy, Near};
+ghost use Rattle.fdtd.specs.Inner.Turns.{Fit, Laid};
+ghost use Rattle.magnetic.specs.Inner.Celled.{ruleH, Moving};
+ghost use Rattle.magnetic.specs.Inner.Swept.{Swept, Carried};
 use crate::row;
 use fdtd::Coef;
 use fdtd::rows;
@@ -29,7 +29,7 @@ fn component(
     kt: Coef,
 )
     requires { ⌜ Near g (now e) (now mem) (now h) cell us ut ⌝ }
-    ensures { λ _. ⌜ Moved (ruleH (now (e .entry)) f) g cell us ut moves ks kt (now (h .entry)) (now (mem .entry)) (now (h .exit)) (now (mem .exit)) ⌝ }
+    ensures { λ _. ⌜ StoredBy (ruleH (now (e .entry)) f) g cell us ut moves ks kt (now (h .entry)) (now (mem .entry)) (now (h .exit)) (now (mem .exit)) ⌝ }
 {
     if moves {
         let q = g.r.at + cell;

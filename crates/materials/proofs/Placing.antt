@@ -14,15 +14,16 @@ use Rattle.codec.specs.Lists.{put, part}
 use Rattle.codec.proofs.Lists.{put-whole, part-length}
 use Rattle.cells.specs.declared.IndexBox.{IndexBox}
 use Rattle.cells.specs.Cells.{cellwise, cellIndex, components}
-use Rattle.cells.specs.Blocks.{on, within, inBlocks, setBox}
-use Rattle.cells.specs.Box.{inBox}
-use Rattle.materials.specs.Materials.{three, mediaSet, idsSet, mediaFault, assignFault, Placed, placed, materialAt, assigned}
+use Rattle.cells.specs.Reading.{block-end}
+use Rattle.cells.specs.Inner.Blocks.{on, inBlocks, setBox}
+use Rattle.cells.specs.Box.{inBox, within}
+use Rattle.materials.specs.Materials.{mediumAt, mediaSet, idsSet, mediaFault, assignFault, Placed, placed, materialAt, assigned}
 use Rattle.grid.specs.declared.Record.{Record}
-use Rattle.grid.specs.Sound.{Sound}
+use Rattle.grid.specs.Inner.Sound.{Sound}
 use Rattle.grid.specs.Stores.{storeLengths}
 use Rattle.grid.proofs.Tests.{and-left, and-right, first-none, or-none}
 use Rattle.grid.proofs.Settled.{lent-none}
-use Rattle.cells.proofs.Blocks.{joined-same, block-end}
+use Rattle.cells.proofs.Blocks.{joined-same}
 use Rattle.cells.proofs.Sweeps.{Keeps, blocks-length, sweep-none, sweep-more}
 use Rattle.cells.proofs.Pointwise.{getD-part, box-keeps, box-at, cellwise-same, cell-in, cells-same}
 
@@ -36,11 +37,11 @@ module _ (nx ny nz : ℕ) (b : IndexBox) (eps mu sigma : Float) (s : List Float)
   N = nz * (ny * nx)
 
   each : ℕ → List Float → List Float
-  each c = setBox nx ny nz b (three eps mu sigma c)
+  each c = setBox nx ny nz b (mediumAt eps mu sigma c)
 
   keeps : Keeps N each
   unfolding N each
-  keeps c l h = box-keeps (three eps mu sigma c) nx ny nz b c l h
+  keeps c l h = box-keeps (mediumAt eps mu sigma c) nx ny nz b c l h
 
   upto : ℕ → List Float
   upto c = on 0 (3 * N) (inBlocks 3 N 0 c each) s
@@ -69,25 +70,25 @@ module _ (nx ny nz : ℕ) (b : IndexBox) (eps mu sigma : Float) (s : List Float)
       ap (λ (t : List Float). on (2 * N) N (each 2) (on N N (each 1) t)) t0 ∙ ap (on (2 * N) N (each 2)) t1 ∙ t2
 
   part-set : (c : ℕ) → c < 3 → cond (within 0 3 c) (each c (part s (c * N) N)) (part s (c * N) N) ≡
-      cellwise nx ny nz (λ i j k. cond (inBox b i j k) (three eps mu sigma c) (getD s (c * (nx * ny * nz) + cellIndex nx ny i j k) nan))
+      cellwise nx ny nz (λ i j k. cond (inBox b i j k) (mediumAt eps mu sigma c) (getD s (c * (nx * ny * nz) + cellIndex nx ny i j k) nan))
   unfolding N each
   part-set c h =
       let short : length (part s (c * (nz * (ny * nx))) (nz * (ny * nx))) ≡ nz * (ny * nx) =
       part-length s (c * (nz * (ny * nx))) (nz * (ny * nx)) (omega (arith, long, block-end c 3 (nz * (ny * nx)) h)) in
       rw (le-leb 0 c (omega arith), lt-ltb c 3 h)
-      (box-at (three eps mu sigma c) nan nx ny nz b (part s (c * (nz * (ny * nx))) (nz * (ny * nx))) short
-      ∙ cellwise-same nx ny nz _ _ (λ i j k p q r. ap (λ (x : Float). cond (inBox b i j k) (three eps mu sigma c) x)
+      (box-at (mediumAt eps mu sigma c) nan nx ny nz b (part s (c * (nz * (ny * nx))) (nz * (ny * nx))) short
+      ∙ cellwise-same nx ny nz _ _ (λ i j k p q r. ap (λ (x : Float). cond (inBox b i j k) (mediumAt eps mu sigma c) x)
       (getD-part s (c * (nz * (ny * nx))) (nz * (ny * nx)) (cellIndex nx ny i j k) nan (cell-in nx ny nz i j k p q r)
       ∙ ap (λ (n : ℕ). getD s (c * n + cellIndex nx ny i j k) nan) (sym (cells-same nx ny nz)))))
 
-  whole-set : upto 3 ≡ mediaSet nx ny nz b (three eps mu sigma) s
+  whole-set : upto 3 ≡ mediaSet nx ny nz b (mediumAt eps mu sigma) s
   unfolding upto mediaSet components inBlocks
   whole-set =
       on-whole (inBlocks 3 N 0 3 each) (3 * N) s size (blocks-length 3 N 0 each keeps 3 s size)
       ∙ joined-same 3 _ _ part-set
 
   pub media-set : on (2 * (nz * (ny * nx))) (nz * (ny * nx)) (setBox nx ny nz b sigma)
-      (on (nz * (ny * nx)) (nz * (ny * nx)) (setBox nx ny nz b mu) (on 0 (nz * (ny * nx)) (setBox nx ny nz b eps) s)) ≡ mediaSet nx ny nz b (three eps mu sigma) s
+      (on (nz * (ny * nx)) (nz * (ny * nx)) (setBox nx ny nz b mu) (on 0 (nz * (ny * nx)) (setBox nx ny nz b eps) s)) ≡ mediaSet nx ny nz b (mediumAt eps mu sigma) s
   unfolding N each
   media-set = three-turns ∙ whole-set
 
@@ -136,7 +137,7 @@ assign-none r media ids id e =
 
 -- both stores after a material was placed
 pub assigned-are : (r : Record) (b : IndexBox) (id : ℕ) (s : Placed) (m : List Float) (i : List ℕ) → length (s .ids) ≡ r .nz * (r .ny * r .nx) →
-    m ≡ mediaSet (r .nx) (r .ny) (r .nz) b (three (materialAt r id .«eps_inf») (materialAt r id .«mu_r») (materialAt r id .sigma)) (s .media) →
+    m ≡ mediaSet (r .nx) (r .ny) (r .nz) b (mediumAt (materialAt r id .«eps_inf») (materialAt r id .«mu_r») (materialAt r id .sigma)) (s .media) →
     i ≡ on 0 (r .nz * (r .ny * r .nx)) (setBox (r .nx) (r .ny) (r .nz) b id) (s .ids) → placed m i ≡ assigned r b id s
 unfolding assigned
 assigned-are r b id s m i n p q = rw (p, q, ids-set (r .nx) (r .ny) (r .nz) b id (s .ids) n)

@@ -17,8 +17,8 @@ use Rattle.grid.specs.Canon.{canonMaterial}
 use Rattle.grid.specs.Stores.{zeros, storeLengths, orElse, faultLent, Outcome, settle}
 
 -- eps_r, mu_r, sigma by their place in the store
-abbrev pub three : Float → Float → Float → ℕ → Float
-three eps mu sigma c = cond (eqb c 0) eps (cond (eqb c 1) mu sigma)
+abbrev pub mediumAt : Float → Float → Float → ℕ → Float
+mediumAt eps mu sigma c = cond (eqb c 0) eps (cond (eqb c 1) mu sigma)
 
 -- the cell numbers with v in each cell of the box; every other number stands
 unfoldable pub mediaSet : (nx ny nz : ℕ) → IndexBox → (ℕ → Float) → List Float → List Float
@@ -35,7 +35,7 @@ mediaFault r n = faultLent r (eqb n (storeLengths r .media))
 
 unfoldable pub setMaterialCall : Record → IndexBox → (eps mu sigma : Float) → List Float → Outcome (List Float)
 setMaterialCall r b eps mu sigma media =
-    settle (mediaFault r (length media)) r media r (mediaSet (r .nx) (r .ny) (r .nz) b (three eps mu sigma) media)
+    settle (mediaFault r (length media)) r media r (mediaSet (r .nx) (r .ny) (r .nz) b (mediumAt eps mu sigma) media)
 
 -- ---- assign_material_box: a registered material's numbers and its id; 7 NoSuchMaterial even where the box is empty
 abbrev pub noSuchMaterial : ℕ
@@ -58,7 +58,7 @@ materialAt r id = getD (r .materials) id beyond
 unfoldable pub assigned : Record → IndexBox → ℕ → Placed → Placed
 assigned r b id s =
     let m = materialAt r id in
-    placed (mediaSet (r .nx) (r .ny) (r .nz) b (three (m .«eps_inf») (m .«mu_r») (m .sigma)) (s .media)) (idsSet (r .nx) (r .ny) (r .nz) b id (s .ids))
+    placed (mediaSet (r .nx) (r .ny) (r .nz) b (mediumAt (m .«eps_inf») (m .«mu_r») (m .sigma)) (s .media)) (idsSet (r .nx) (r .ny) (r .nz) b id (s .ids))
 
 unfoldable pub assignBoxCall : Record → ℕ → IndexBox → Placed → Outcome Placed
 assignBoxCall r id b s = settle (assignFault r (length (s .media)) (length (s .ids)) id) r s r (assigned r b id s)

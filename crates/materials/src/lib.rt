@@ -6,7 +6,7 @@ ghost use lib.ListN.{length};
 ghost use Rattle.dispersion.specs.Material.{blankSlot};
 ghost use Rattle.grid.specs.Canon.{canonMaterial};
 ghost use Rattle.grid.specs.Stores.{outcome};
-ghost use Rattle.materials.specs.Materials.{three, mediaSet, setMaterialCall, assignFault, assignBoxCall, placed, halfspace, anyPole, builtOf, buildCall, addFault, addCall};
+ghost use Rattle.materials.specs.Materials.{mediumAt, mediaSet, setMaterialCall, assignFault, assignBoxCall, placed, halfspace, anyPole, builtOf, buildCall, addFault, addCall};
 use cells::IndexBox;
 use dispersion::DispersiveMaterial;
 use dispersion::PoleSlot;
@@ -40,7 +40,7 @@ fn set_media(
     sigma: f64,
 )
     requires { ⌜ (ny * nx ≤ 262144) × (nz * (ny * nx) ≤ 1048576) × (length (now media) ≡ 3 * (nz * (ny * nx))) ⌝ }
-    ensures { λ _. ⌜ now (media .exit) ≡ mediaSet nx ny nz b (three «eps_r» «mu_r» sigma) (now (media .entry)) ⌝ }
+    ensures { λ _. ⌜ now (media .exit) ≡ mediaSet nx ny nz b (mediumAt «eps_r» «mu_r» sigma) (now (media .entry)) ⌝ }
 {
     let n = nz * (ny * nx);
     cells::fill_box(media, 0, nx, ny, nz, b, eps_r);

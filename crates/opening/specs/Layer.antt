@@ -22,8 +22,8 @@ layer pe ph t = record { psiE = pe; psiH = ph; tables = t }
 unfoldable pub layerLong : (psiE psiH tables : ℕ) → Lengths → Bool
 layerLong pe ph t l = eqb pe (l .«psi_e») && eqb ph (l .«psi_h») && eqb t (l .tables)
 
-abbrev pub layerFits : Layer → Lengths → Bool
-layerFits s = layerLong (length (s .psiE)) (length (s .psiH)) (length (s .tables))
+abbrev pub layerLent : Layer → Lengths → Bool
+layerLent s = layerLong (length (s .psiE)) (length (s .psiH)) (length (s .tables))
 
 -- every `set_boundary` clears the memories and puts the tables back to opening
 unfoldable pub clearedLayer : (nx ny nz : ℕ) → Layer → Layer

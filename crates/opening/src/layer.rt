@@ -9,7 +9,7 @@ use grid::stores;
 use grid::stores::Lengths;
 
 // Whether the layer's stores have the lengths that the record asks for.
-pub fn layer_fits(psi_e: usize, psi_h: usize, tables: usize, l: Lengths) -> bool
+pub fn layer_long(psi_e: usize, psi_h: usize, tables: usize, l: Lengths) -> bool
     ensures { λ b. ⌜ b ≡ layerLong «psi_e» «psi_h» tables l ⌝ }
 {
     (psi_e == l.psi_e) & (psi_h == l.psi_h) & (tables == l.tables)

@@ -5,7 +5,7 @@ ghost use mathlib.Core.Path.{_≡_};
 ghost use Prim.Native.Nat.{_+_, _*_, _≤_};
 ghost use lib.ListN.{length};
 ghost use Rattle.codec.specs.Lists.{put};
-ghost use Rattle.grid.specs.Sound.{Sound};
+ghost use Rattle.grid.specs.Inner.Sound.{Sound};
 ghost use Rattle.grid.specs.Stores.{stores, outcome, storeLengths, lengthsOf};
 ghost use Rattle.opening.specs.Opening.{openRecord, openMedia, inactive, openTables, openStores, openCall};
 use dispersion::DispersiveMaterial;

@@ -11,6 +11,7 @@ use super::differ::plus;
 use super::input;
 use super::input::Counts;
 use super::input::LONGEST;
+use block::BLOCK_LENGTH;
 use grid::Record;
 
 // What came of a study. Where it is not whole the list does not hold it, and the rest is 0.
@@ -92,8 +93,8 @@ fn see_two(a: &[f64], b: &[f64]) -> Seen {
 
 // The block of a record beside the one that is answered.
 fn see_block(r: Record) -> Seen {
-    let mut a = [0u8; 2073];
-    let mut b = [0u8; 2073];
+    let mut a = [0u8; BLOCK_LENGTH];
+    let mut b = [0u8; BLOCK_LENGTH];
     block::put_record(&mut a, r);
     let whole = input::read_bytes(&mut b);
     let apart = bytes_apart(&a, &b);
@@ -294,7 +295,7 @@ pub fn next() -> Outcome {
     if !fits(c) {
         return no_study();
     }
-    let mut b = [0u8; 2073];
+    let mut b = [0u8; BLOCK_LENGTH];
     if !input::read_bytes(&mut b) {
         return no_study();
     }

@@ -18,7 +18,7 @@ use lib.Ieee.Order.{drop}
 use lib.Ieee.Scale.{grid, round-val}
 use lib.Ieee.Positive.{num, den, positive, den-pos, value→cross, positive-of-value}
 use Rattle.root.specs.Root.{NearestRoot, IsRoot, Rooted, nextDigit, cutRoot, roundedRoot, rootOf}
-use Rattle.root.specs.Steps.{Floor, Scale, unitsOf}
+use Rattle.root.specs.Inner.Steps.{Floor, Scale, unitsOf}
 use Rattle.root.proofs.Nearest.{positive-plain}
 use Rattle.root.proofs.Fields.{read}
 use Rattle.root.proofs.Scaling.{normal}

@@ -13,7 +13,7 @@ use lib.Ieee.Fits.{eq→eqb}
 use lib.Ieee.Bits.{ofBits-toBits, nanBits-above, is-true, is-false}
 use lib.Ieee.Exact.{HasValue, odd-sign}
 use lib.Ieee.Positive.{positive, value-pos}
-use Rattle.root.specs.Steps.{unitsOf}
+use Rattle.root.specs.Inner.Steps.{unitsOf}
 
 -- ---- no pattern with the sign set is a positive double's
 odd-neg : (d q k l : ℕ) → T (positive (odd d true q k l)) → ⊥

@@ -12,13 +12,20 @@ use lib.Ieee.{Float, nan, inf, fin, binary64, up, down, fits, lt, odd, ofFields,
 use lib.Ieee.Bits.{ofBits-fits}
 use lib.Ieee.Exact.{HasValue, odd-sign}
 use lib.Ieee.Positive.{num, den, positive, den-pos, value→cross, positive-of-value}
-use Rattle.root.specs.Root.{number, mid, Under, Over, NearestRoot, Judged}
-use Rattle.root.specs.Steps.{unitsOf}
+use Rattle.root.specs.Root.{number, mid, Under, Over, NearestRoot}
+use Rattle.root.specs.Inner.Steps.{unitsOf}
 use Rattle.root.proofs.Squares.{under, over, under-back, over-back, sum-is, cross-lt}
 use Rattle.root.proofs.Nearest.{plain, positive-plain, lt-is, lt-cross}
 use Rattle.root.proofs.Fields.{Read, read, read-bits, fields-at, sign-clear}
 use Rattle.root.proofs.Unique.{number-of}
 use Rattle.root.proofs.Result.{widen}
+
+-- NearestRoot as its two neighbours alone show it. Their bit patterns are the numbers next to r's; only the largest double has no finite one above it.
+pub record NearestOfThree (x r : Float) : Type 0 where
+  pub held : T (fits binary64 r)
+  pub above-zero : T (positive r)
+  pub below-next : T (positive (ofBits binary64 (toBits binary64 r + 1))) → Under x r (ofBits binary64 (toBits binary64 r + 1))
+  pub above-prior : Over x r (ofBits binary64 (toBits binary64 r - 1))
 
 -- ---- the size of a pattern in units of 2 ^ -1074, which grows with the pattern
 abbrev val : ℕ → ℕ
@@ -151,7 +158,7 @@ below-field : (a b : ℕ) → a ≤ b → b / 2 ^ 52 < 2047 → a / 2 ^ 52 < 204
 below-field a b h k = omega arith
 
 module _ (x r : Float) (X : T (fits binary64 x)) (P : T (positive x)) where
-  pub judged-nearest : Judged x r → NearestRoot x r
+  pub judged-nearest : NearestOfThree x r → NearestRoot x r
   judged-nearest j = record { held = j .held; above-zero = j .above-zero; below-larger = larger; above-smaller = smaller }
     where
       larger : (y : Float) → T (number y) → T (lt r y) → Under x r y
@@ -192,7 +199,7 @@ module _ (x r : Float) (X : T (fits binary64 x)) (P : T (positive x)) where
               let d : toBits binary64 y ≤ toBits binary64 r - 1 = omega arith in
               far (val (toBits binary64 y)) (Y .value) (val-mono (toBits binary64 y) (toBits binary64 r - 1) d)
 
-pub nearest-judged : (x r : Float) → NearestRoot x r → Judged x r
+pub nearest-judged : (x r : Float) → NearestRoot x r → NearestOfThree x r
 nearest-judged x r h =
     let R = read r (h .held) (h .above-zero) in
     let b = toBits binary64 r in

@@ -5,7 +5,7 @@ use native.Mathlib.Nat.{lt-of-lt-of-le, mul-assoc, mul-comm, mul-left-comm, mul-
 use native.Mathlib.Numerals.{add-one}
 use native.Mathlib.Omega.{arith}
 use lib.Pow.{pow-mono}
-use Rattle.root.specs.Steps.{Floor}
+use Rattle.root.specs.Inner.Steps.{Floor}
 
 -- i digits q of the root are known: r is left of what was taken of a * 2 ^ 54, and w has the digits still to take
 pub record Taken (a q r w i : ℕ) : Type 0 where

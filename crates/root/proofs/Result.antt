@@ -12,7 +12,7 @@ use lib.Ieee.Bits.{ofBits-fits}
 use lib.Ieee.Exact.{HasValue}
 use lib.Ieee.Positive.{positive, den-pos, positive-of-value}
 use Rattle.root.specs.Root.{NearestRoot}
-use Rattle.root.specs.Steps.{Floor, Scale}
+use Rattle.root.specs.Inner.Steps.{Floor, Scale}
 use Rattle.root.proofs.Squares.{rounds}
 use Rattle.root.proofs.Nearest.{nearest}
 use Rattle.root.proofs.Fields.{made}

@@ -4,7 +4,7 @@ use Prim.Native.Nat.{ℕ, zero, suc, _+_, _-_, _*_, _^_, _≤_, _<_}
 use native.Mathlib.Nat.{mul-assoc, pow-succ'}
 use native.Mathlib.Omega.{arith}
 use lib.Pow.{pow-add}
-use Rattle.root.specs.Steps.{Scale, unitsOf}
+use Rattle.root.specs.Inner.Steps.{Scale, unitsOf}
 
 -- a normal one has them
 pub normal : (field t : ℕ) → field < 2047 → t < 2 ^ 52 → 0 < field → Scale (unitsOf field t) (2 ^ 52 + t) (field + 51)

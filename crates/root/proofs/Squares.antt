@@ -6,7 +6,7 @@ use mathlib.Core.Logic.{_⊎_, inl, inr}
 use native.Mathlib.Decide.{decLe}
 use native.Mathlib.Omega.{arith}
 use lib.Pow.{pow-add, pow-pos, pow-mono}
-use Rattle.root.specs.Steps.{Floor}
+use Rattle.root.specs.Inner.Steps.{Floor}
 
 -- ---- fractions: nx / dx is a / (U * U), and s / d is S / U
 module _ (nx dx a s d S U : ℕ) (e : nx * (U * U) ≡ a * dx) (f : s * U ≡ S * d) (p : 0 < dx) (q : 0 < d) where

@@ -1,5 +1,5 @@
 pub mod Rounded
 pub mod Root
-pub mod Steps
 pub mod Constants
 pub mod Courant
+pub mod Inner

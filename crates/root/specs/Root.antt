@@ -1,10 +1,10 @@
 -- The squareRoot operation of IEEE 754-2019, clause 5.4.1, on doubles.
 -- A finite double x is the fraction num x / den x of whole numbers, so every statement below is one about whole numbers.
 use mathlib.Core.Path.{_≡_}
-use Prim.Native.Nat.{ℕ, zero, suc, _+_, _-_, _*_, _/_, _^_, _<_}
+use Prim.Native.Nat.{ℕ, zero, suc, _+_, _*_, _/_, _^_, _<_}
 use mathlib.Core.Bool.{Bool, true, false, cond}
 use lib.Dec.{T, leb}
-use lib.Ieee.{Float, nan, inf, fin, binary64, fits, lt, size, round, ofBits, toBits}
+use lib.Ieee.{Float, nan, inf, fin, binary64, fits, lt, size, round}
 use lib.Ieee.Positive.{num, den, positive}
 
 -- y is a finite double, and not negative
@@ -35,14 +35,6 @@ pub record NearestRoot (x r : Float) : Type 0 where
   pub above-zero : T (positive r)
   pub below-larger : (y : Float) → T (number y) → T (lt r y) → Under x r y
   pub above-smaller : (y : Float) → T (number y) → T (lt y r) → Over x r y
-
--- The same judged by r's two neighbours alone. Their bit patterns are the numbers next to r's; only the largest double has no finite
--- one above it. `judged-nearest` and `nearest-judged` (proofs/Neighbours.antt) show that the two records say one thing.
-pub record Judged (x r : Float) : Type 0 where
-  pub held : T (fits binary64 r)
-  pub above-zero : T (positive r)
-  pub below-next : T (positive (ofBits binary64 (toBits binary64 r + 1))) → Under x r (ofBits binary64 (toBits binary64 r + 1))
-  pub above-prior : Over x r (ofBits binary64 (toBits binary64 r - 1))
 
 -- r is the square root of x, for every x: a zero keeps its sign, a negative number has none
 abbrev pub IsRoot : Float → Float → Type 0

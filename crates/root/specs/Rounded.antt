@@ -35,7 +35,7 @@ twoF = ofBits binary64 0x4000000000000000
 abbrev pub fourF : Float
 fourF = ofBits binary64 0x4010000000000000
 
--- from +0.0, f 0 and then f 1 and so on added up to f (n - 1)
+-- ((+0.0 ⊕ f 0) ⊕ f 1) ⊕ .. ⊕ f (n - 1)
 unfoldable pub summed : ℕ → (ℕ → Float) → Float
 summed zero f = zeroF
 summed (suc n) f = summed n f ⊕ f n

@@ -6,7 +6,7 @@ ghost use Prim.Native.Nat.{_*_, _^_, _<_};
 ghost use lib.Dec.{T};
 ghost use lib.Ieee.Positive.{positive};
 ghost use Rattle.root.specs.Root.{NearestRoot, Rooted};
-ghost use Rattle.root.specs.Steps.{Floor, Scale, unitsOf};
+ghost use Rattle.root.specs.Inner.Steps.{Floor, Scale, unitsOf};
 ghost use Rattle.root.specs.Courant.{courantRoot, courantNumber, courantLimit, stable};
 
 // 2^52: the weight of a double's exponent field, and of its leading digit.

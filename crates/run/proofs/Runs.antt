@@ -12,10 +12,10 @@ use Rattle.grid.specs.declared.Record.{Record}
 use Rattle.grid.specs.declared.Clock.{Clock}
 use Rattle.grid.specs.Edited.{withClock}
 use Rattle.grid.specs.Fault.{polesFit}
-use Rattle.grid.specs.Sound.{Sound}
+use Rattle.grid.specs.Inner.Sound.{Sound}
 use Rattle.grid.specs.Stores.{Stores, stores, Outcome, outcome}
 use Rattle.step.specs.Step.{lastStep, stepped, ticked}
-use Rattle.step.specs.Ready.{Ready}
+use Rattle.step.specs.Inner.Ready.{StepReady}
 use Rattle.run.specs.Run.{ran}
 
 module _ (eps0 mu0 c0 : Float) (samples : List Float) where
@@ -66,8 +66,8 @@ fitting r t p = p
 
 -- a step leaves a study without fault: the stores keep their lengths
 module _ {e h media psiE psiH tables poles aux e' h' psiE' psiH' poles' aux' : List Float} {ids : List ℕ} where
-  pub still-ready : (r q : Record) → q ≡ ticked r → Ready r (stores e h media psiE psiH tables poles aux ids) → length e' ≡ length e → length h' ≡ length h → length psiE' ≡ length psiE
-      → length psiH' ≡ length psiH → length poles' ≡ length poles → length aux' ≡ length aux → Ready q (stores e' h' media psiE' psiH' tables poles' aux' ids)
+  pub still-ready : (r q : Record) → q ≡ ticked r → StepReady r (stores e h media psiE psiH tables poles aux ids) → length e' ≡ length e → length h' ≡ length h → length psiE' ≡ length psiE
+      → length psiH' ≡ length psiH → length poles' ≡ length poles → length aux' ≡ length aux → StepReady q (stores e' h' media psiE' psiH' tables poles' aux' ids)
   still-ready r q eq p a b c d f g =
       let w = p .wavy in
       let o = p .polar in

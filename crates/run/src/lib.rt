@@ -5,7 +5,7 @@ ghost use lib.ListN.{length};
 ghost use Rattle.grid.specs.Edited.{withClock};
 ghost use Rattle.grid.specs.Stores.{stores, outcome};
 ghost use Rattle.step.specs.Step.{lastStep};
-ghost use Rattle.step.specs.Ready.{Ready};
+ghost use Rattle.step.specs.Inner.Ready.{StepReady};
 ghost use Rattle.run.specs.Run.{ran, runCall};
 use grid::Clock;
 use grid::Record;
@@ -29,7 +29,7 @@ fn advance_all(
     aux: &mut [f64],
     ids: &[u32],
 ) -> Clock
-    requires { ⌜ Ready r (stores (now e) (now h) (now media) (now «psi_e») (now «psi_h») (now tables) (now poles) (now aux) (now ids)) ⌝ }
+    requires { ⌜ StepReady r (stores (now e) (now h) (now media) (now «psi_e») (now «psi_h») (now tables) (now poles) (now aux) (now ids)) ⌝ }
     requires { ⌜ r .clock .steps + length (now samples) ≤ lastStep ⌝ }
     ensures { λ t. ⌜ outcome 0 (withClock r t) (stores (now (e .exit)) (now (h .exit)) (now (media .entry)) (now («psi_e» .exit)) (now («psi_h» .exit)) (now (tables .entry)) (now (poles .exit)) (now (aux .exit)) (now (ids .entry))) ≡ ran eps0 mu0 c0 r (now (samples .entry)) (stores (now (e .entry)) (now (h .entry)) (now (media .entry)) (now («psi_e» .entry)) (now («psi_h» .entry)) (now (tables .entry)) (now (poles .entry)) (now (aux .entry)) (now (ids .entry))) ⌝ }
 {

@@ -10,12 +10,12 @@ use Rattle.codec.specs.Lists.{put}
 use Rattle.grid.specs.declared.Record.{Record}
 use Rattle.grid.specs.declared.stores.Lengths.{Lengths}
 use Rattle.grid.specs.Fault.{first}
-use Rattle.grid.specs.Sound.{Sound}
+use Rattle.grid.specs.Inner.Sound.{Sound}
 use Rattle.grid.specs.Stores.{Stores, outcome, cells, storeLengths, lengthsOf, faultWith}
 use Rattle.grid.proofs.Settled.{turned-down, taken-up, with-none}
 use Rattle.grid.proofs.Tests.{or-stays, or-goes}
 use Rattle.format.specs.Save.{saveBytes, saveLength, saveFault, saveCall, noRoom}
-use Rattle.saves.specs.Room.{Roomy}
+use Rattle.saves.specs.Inner.Room.{Roomy}
 use Rattle.format.proofs.Written.{pole-count}
 
 -- what the code that writes and reads needs of lengths, where the stores are the record's and there are bytes enough for its save

@@ -1,43 +1,41 @@
 -- Bytes as code judges them, record by record, by places. Assumes nothing.
 use Prim.Native.Nat.{ℕ, zero, suc, _+_, _-_, _*_, _^_, _≤_, _<_}
-use native.Mathlib.Nat.{zero-add}
 use native.Mathlib.Numerals.{add-one}
 use native.Mathlib.Omega.{arith}
-use mathlib.Core.Path.{_≡_, refl, sym, ap, _∙_}
-use mathlib.Core.Bool.{Bool, true, false, cond}
+use mathlib.Core.Path.{_≡_, refl, sym, ap, _∙_, subst}
+use mathlib.Core.Bool.{Bool, true, false}
 use mathlib.Core.List.{List, [], _∷_}
-use borrow.Author.Tests.{lt-ltb, le-ltb, eq-eqb, ne-eqb, eqb-true, eqb-false}
+use borrow.Author.Tests.{eq-eqb, ne-eqb, eqb-true, eqb-false}
 use lib.Dec.{T, ltb, eqb, lt→ltb}
-use lib.ListN.{length, getD, drop, set, length-drop, drop-of-length-le}
+use lib.ListN.{length, getD, drop, length-drop, drop-of-length-le}
 use lib.Seq.{drop-drop, drop-cons}
-use Rattle.codec.specs.Lists.{put}
-use Rattle.codec.specs.Bytes.{nums, bytesFit}
+use Rattle.codec.specs.Bytes.{bytesFit}
 use Rattle.codec.specs.Frame.{frameFault, badRecord}
-use Rattle.codec.proofs.Lists.{put-whole, every-of, every-drop}
+use Rattle.codec.proofs.Lists.{every-of, every-drop}
 use Rattle.codec.proofs.Row.{nums-fit, fit-at}
 use Rattle.codec.proofs.Framed.{frame-room}
-use Rattle.dispersion.specs.declared.DispersiveMaterial.{DispersiveMaterial}
-use Rattle.dispersion.specs.Material.{vacuumMaterial}
 use Rattle.cells.specs.Cells.{joined, row}
-use Rattle.cells.proofs.Blocks.{length-row}
-use Rattle.cells.proofs.Written.{row-more, getD-row}
+use Rattle.cells.specs.Reading.{length-row}
+use Rattle.cells.proofs.Written.{getD-row}
 use Rattle.frames.specs.declared.Taken.{Taken}
 use Rattle.frames.specs.declared.Taken.the-variants.{Fault, At}
-use Rattle.frames.specs.Taking.{takenAt}
-use Rattle.frames.proofs.Turns.{fault-told, start-told}
+use Rattle.frames.specs.Taking.{takenBy, takenAt}
+use Rattle.frames.proofs.Turns.{of-fault, by-fault, by-start, fault-told, start-told}
 use Rattle.grid.specs.declared.Record.{Record}
 use Rattle.grid.specs.declared.stores.Lengths.{Lengths}
 use Rattle.grid.specs.Fault.{first, faultOf}
-use Rattle.grid.specs.Sound.{Sound}
-use Rattle.grid.specs.Stores.{storeLengths}
+use Rattle.grid.specs.Inner.Sound.{Sound}
+use Rattle.grid.specs.Stores.{storeLengths, orElse}
 use Rattle.grid.proofs.Judging.{sound}
 use Rattle.grid.proofs.Tests.{and-right, first-none, or-none, or-stays, or-goes}
-use Rattle.heads.specs.Numbers.{ghWidths, ghFine, ghOf, mlWidths, mlFine, mlOf}
+use Rattle.heads.specs.Numbers.{ghWidths, ghLength, ghFine, ghOf, mlLength, mlFine}
+use Rattle.heads.specs.Payloads.{headOf, countOf, entryOf, entryAt}
 use Rattle.heads.proofs.Whole.{gh-total}
-use Rattle.format.specs.Records.{Expected, recordFault, recordsFault, trailing}
+use Rattle.heads.proofs.Listed.{entry-at}
+use Rattle.format.specs.Records.{Expected, expected, recordFault, recordsFault, trailing}
 use Rattle.format.specs.Save.{markCM, markFE, markFH, markLE, markLH, markLT, markPP, markAX}
-use Rattle.format.specs.Rewind.{headOf, countOf, bare, headGood, entryOf, materialOf, headRecord, listRecord, idsRecord, floats, storeRecords, table, tableOf, bytesFault}
-use Rattle.saves.specs.Places.{floatRecords, Few, Small}
+use Rattle.format.specs.Rewind.{saveHead, bare, headGood, headRecord, listRecord, idsRecord, floatsRecord, storeRecords, table, tableOf, bytesFault}
+use Rattle.saves.specs.Inner.Places.{listPlace, passedBy, judgedAt, floatRecords, Few, Small}
 
 -- ---- one record at a place
 module _ (e : Expected) (b : List ℕ) (at f : ℕ) (p : f ≡ frameFault (e .mark) (e .size) (drop at b)) where
@@ -61,57 +59,89 @@ record-left e b at f p h l =
     let z = or-none (frameFault (e .mark) (e .size) (drop at b)) _ (sym p ∙ h) in
     omega (arith, frame-room (e .mark) (e .size) (drop at b) (z .0), length-drop at b, l)
 
--- ---- one record as the reader takes it
+-- ---- one record, its frame taken by the reader
 module _ (e : Expected) (b : List ℕ) (at : ℕ) (t : Taken) (own : t ≡ takenAt b at (e .mark) (e .size)) where
-  pub taken-fault : (f : ℕ) → t ≡ Fault f → f ≡ recordFault e (drop at b)
-  taken-fault f h = let z = fault-told b at (e .mark) (e .size) t f own h in record-stays e b at f (z .0) (z .1)
+  pub frame-bad : (f : ℕ) → t ≡ Fault f → Fault f ≡ judgedAt e b at
+  unfolding judgedAt
+  frame-bad f h =
+      let z = fault-told b at (e .mark) (e .size) t f own h in
+      of-fault f at (e .size) (z .1) ∙ ap (λ (k : ℕ). takenBy k at (e .size)) (record-stays e b at f (z .0) (z .1))
 
   module _ (p q : ℕ) (h : t ≡ At p q) where
-    pub taken-judged : (u : Bool) (k : ℕ) → u ≡ e .test (drop p b) → k ≡ first u badRecord 0 → k ≡ recordFault e (drop at b)
-    taken-judged u k w r =
-        let z = start-told b at (e .mark) (e .size) t p q own h in
-        record-goes e b at 0 (z .0) u k refl (w ∙ ap (λ (i : ℕ). e .test (drop i b)) (z .1)) r
+    abbrev told : (0 ≡ frameFault (e .mark) (e .size) (drop at b)) × (p ≡ at + 6) × (q ≡ at + 6 + e .size)
+    told = start-told b at (e .mark) (e .size) t p q own h
 
-    pub taken-left : at ≤ length b → p + e .size ≤ length b
-    taken-left l =
-        let z = start-told b at (e .mark) (e .size) t p q own h in
-        omega (arith, z .1, frame-left e b at 0 (z .0) refl l)
+    pub frame-well : (good : Bool) (u : Taken) → good ≡ e .test (drop p b) → u ≡ passedBy good p q → u ≡ judgedAt e b at
+    unfolding judgedAt
+    frame-well good u w r = r ∙ go good (w ∙ ap (λ (i : ℕ). e .test (drop i b)) (told .1))
+      where
+        same : (x : Bool) (k : ℕ) → x ≡ e .test (drop (at + 6) b) → k ≡ first x badRecord 0 → takenBy k at (e .size) ≡ takenBy (recordFault e (drop at b)) at (e .size)
+        same x k i j = ap (λ (m : ℕ). takenBy m at (e .size)) (record-goes e b at 0 (told .0) x k refl i j)
 
-    pub taken-start : p ≡ at + 6
-    taken-start = start-told b at (e .mark) (e .size) t p q own h .1
+        go : (x : Bool) → x ≡ e .test (drop (at + 6) b) → passedBy x p q ≡ takenBy (recordFault e (drop at b)) at (e .size)
+        go true i = ap (λ (x : ℕ). At x q) (told .1) ∙ ap (At (at + 6)) (told .2) ∙ same true 0 i refl
+        go false i = same false badRecord i refl
 
--- ---- records one after another
-module _ (e : Expected) (es : List Expected) (b : List ℕ) (at f : ℕ) (p : f ≡ recordFault e (drop at b)) where
-  pub walk-stays : (f ≡ 0 → ⊥) → f ≡ recordsFault (e ∷ es) (drop at b)
-  unfolding recordsFault
-  walk-stays h = or-stays f (recordFault e (drop at b)) _ p h
+    pub frame-holds : at ≤ length b → p + e .size ≤ length b
+    frame-holds l = omega (arith, told .1, frame-left e b at 0 (told .0) refl l)
 
-  pub walk-goes : (k : ℕ) → f ≡ 0 → k ≡ recordsFault es (drop (at + (6 + e .size)) b) → k ≡ recordsFault (e ∷ es) (drop at b)
-  unfolding recordsFault
-  walk-goes k h q = or-goes f (recordFault e (drop at b)) _ k p h (q ∙ ap (recordsFault es) (sym (drop-drop (6 + e .size) at b)))
+    pub frame-start : p ≡ at + 6
+    frame-start = told .1
+
+-- where any payload will do, there is no more to judge
+pub any-payload : (m n : ℕ) (b : List ℕ) (at : ℕ) → takenAt b at m n ≡ judgedAt (expected m n (λ _. true)) b at
+unfolding takenAt judgedAt recordFault
+any-payload m n b at = ap (λ (k : ℕ). takenBy k at n) (go (frameFault m n (drop at b)))
+  where
+    go : (f : ℕ) → f ≡ orElse f 0
+    go zero = refl
+    go (suc f) = refl
+
+-- ---- one record judged, and those that follow it
+module _ (e : Expected) (b : List ℕ) (at : ℕ) (t : Taken) (own : t ≡ judgedAt e b at) where
+  pub walk-stays : (es : List Expected) (f : ℕ) → t ≡ Fault f → f ≡ recordsFault (e ∷ es) (drop at b)
+  unfolding recordsFault judgedAt
+  walk-stays es f h =
+      let z = by-fault (recordFault e (drop at b)) at (e .size) f (sym own ∙ h) in
+      or-stays f (recordFault e (drop at b)) _ (z .0) (z .1)
+
+  module _ (p q : ℕ) (h : t ≡ At p q) where
+    abbrev fine : (0 ≡ recordFault e (drop at b)) × (p ≡ at + 6) × (q ≡ at + 6 + e .size)
+    unfolding judgedAt
+    fine = by-start (recordFault e (drop at b)) at (e .size) p q (sym own ∙ h)
+
+    pub walk-goes : (es : List Expected) (k : ℕ) → k ≡ recordsFault es (drop q b) → k ≡ recordsFault (e ∷ es) (drop at b)
+    unfolding recordsFault
+    walk-goes es k w =
+        let place : q ≡ at + (6 + e .size) = omega (arith, fine .2) in
+        or-goes 0 (recordFault e (drop at b)) _ k (fine .0) refl
+        (w ∙ ap (λ (i : ℕ). recordsFault es (drop i b)) place ∙ ap (recordsFault es) (sym (drop-drop (6 + e .size) at b)))
+
+    pub walk-room : at ≤ length b → q ≤ length b
+    walk-room l = omega (arith, fine .2, record-left e b at 0 (fine .0) refl l)
 
 -- ---- GH
-pub steps-small : (b : List ℕ) → 79 ≤ length b → ((i : ℕ) → getD b i 0 < 256) → getD (headOf b) 25 0 ≤ 4294967295
+pub steps-small : (b : List ℕ) → listPlace ≤ length b → ((i : ℕ) → getD b i 0 < 256) → getD (saveHead b) 25 0 ≤ 4294967295
 steps-small b e h =
     let bytes : T (bytesFit (drop 6 b)) = every-drop _ 6 b (every-of (λ x. ltb x 256) b 0 (λ i _. lt→ltb (getD b i 0) 256 (h i))) in
-    let small : getD (headOf b) 25 0 < 256 ^ 4 = fit-at ghWidths (headOf b) 25 (nums-fit ghWidths (drop 6 b) (omega (arith, gh-total, length-drop 6 b, e)) bytes) (omega arith) in
+    let small : getD (saveHead b) 25 0 < 256 ^ 4 = fit-at ghWidths (saveHead b) 25 (nums-fit ghWidths (drop 6 b) (omega (arith, gh-total, length-drop 6 b, e)) bytes) (omega arith) in
     omega arith
 
 module _ (b : List ℕ) (f : ℕ) (p : f ≡ recordFault headRecord b) (h : f ≡ 0) where
-  pub head-room : 79 ≤ length b
+  pub head-room : listPlace ≤ length b
   head-room = omega (arith, record-left headRecord b 0 f p h (omega arith))
 
-  head-none : faultOf (bare (headOf b)) ≡ 0
+  head-none : faultOf (bare (saveHead b)) ≡ 0
   unfolding recordFault headGood
   head-none =
-      let z = or-none (frameFault (headRecord .mark) 73 b) _ (sym p ∙ h) in
-      let t = first-none (headGood (headOf b)) 14 0 (z .1) .0 in
-      eqb-true _ _ (and-right (ghFine (headOf b)) (eqb (faultOf (bare (headOf b))) 0) t)
+      let z = or-none (frameFault (headRecord .mark) ghLength b) _ (sym p ∙ h) in
+      let t = first-none (headGood (saveHead b)) 14 0 (z .1) .0 in
+      eqb-true _ _ (and-right (ghFine (saveHead b)) (eqb (faultOf (bare (saveHead b))) 0) t)
 
-  pub head-sound : Sound (bare (headOf b))
-  head-sound = sound (bare (headOf b)) head-none
+  pub head-sound : Sound (bare (saveHead b))
+  head-sound = sound (bare (saveHead b)) head-none
 
-  pub head-count : countOf (headOf b) ≤ 16
+  pub head-count : countOf (saveHead b) ≤ 16
   unfolding bare ghOf
   head-count = head-sound .materials
 
@@ -130,51 +160,37 @@ small-lengths r k = record {
 }
 
 -- ---- ML
-module _ (b : List ℕ) (at : ℕ) where
-  entry-at : (i : ℕ) → nums mlWidths (drop (at + 125 * i) b) ≡ entryOf (drop at b) i
-  entry-at i = ap (nums mlWidths) (sym (drop-drop (125 * i) at b))
-
-  pub fine-at : (i : ℕ) (n : List ℕ) (t : Bool) → n ≡ nums mlWidths (drop (at + 125 * i) b) → t ≡ mlFine n → t ≡ mlFine (entryOf (drop at b) i)
-  fine-at i n t e q = q ∙ ap mlFine (e ∙ entry-at i)
-
-  pub read-outside : (count i : ℕ) (m : DispersiveMaterial) → count ≤ i → m ≡ vacuumMaterial → m ≡ materialOf count (drop at b) i
-  read-outside count i m h q = q ∙ sym (ap (λ (t : Bool). cond t (mlOf (entryOf (drop at b) i)) vacuumMaterial) (le-ltb i count h))
-
-  pub read-inside : (count i : ℕ) (n : List ℕ) (m : DispersiveMaterial) → i < count → n ≡ nums mlWidths (drop (at + 125 * i) b) → m ≡ mlOf n → m ≡ materialOf count (drop at b) i
-  read-inside count i n m h e q =
-      q ∙ ap mlOf (e ∙ entry-at i) ∙ sym (ap (λ (t : Bool). cond t (mlOf (entryOf (drop at b) i)) vacuumMaterial) (lt-ltb i count h))
+pub fine-at : (b : List ℕ) (at i : ℕ) (n : List ℕ) (t : Bool) → n ≡ entryOf (drop (at + mlLength * i) b) → t ≡ mlFine n → t ≡ mlFine (entryAt (drop at b) i)
+fine-at b at i n t e q = q ∙ ap mlFine (e ∙ entry-at b at i)
 
 -- ---- eight stores of floats
 module _ (ms ns b : List ℕ) where
   abbrev es : List Expected
   es = floatRecords ms ns
 
-  next-record : (i : ℕ) → i < 8 → drop i es ≡ floats (getD ms i 0) (getD ns i 0) ∷ drop (i + 1) es
+  next-record : (i : ℕ) → i < 8 → drop i es ≡ floatsRecord (getD ms i 0) (getD ns i 0) ∷ drop (i + 1) es
   unfolding floatRecords
   next-record i h =
-      let f : ℕ → Expected = λ k. floats (getD ms k 0) (getD ns k 0) in
-      drop-cons (row 8 f) i (floats 0 0) (omega (arith, length-row 8 f, h))
-      ∙ ap (λ (e : Expected). e ∷ drop (suc i) (row 8 f)) (getD-row 8 f i (floats 0 0) h)
-      ∙ ap (λ (k : ℕ). floats (getD ms i 0) (getD ns i 0) ∷ drop k (row 8 f)) (sym (add-one i))
+      let f : ℕ → Expected = λ k. floatsRecord (getD ms k 0) (getD ns k 0) in
+      drop-cons (row 8 f) i (floatsRecord 0 0) (omega (arith, length-row 8 f, h))
+      ∙ ap (λ (e : Expected). e ∷ drop (suc i) (row 8 f)) (getD-row 8 f i (floatsRecord 0 0) h)
+      ∙ ap (λ (k : ℕ). floatsRecord (getD ms i 0) (getD ns i 0) ∷ drop k (row 8 f)) (sym (add-one i))
 
-  module _ (start at i f : ℕ) (inv : recordsFault es (drop start b) ≡ recordsFault (drop i es) (drop at b)) where
-    pub floats-stay : i < 8 → f ≡ recordFault (floats (getD ms i 0) (getD ns i 0)) (drop at b) → (f ≡ 0 → ⊥) → f ≡ recordsFault es (drop start b)
-    floats-stay l p h =
-        walk-stays (floats (getD ms i 0) (getD ns i 0)) (drop (i + 1) es) b at f p h
-        ∙ ap (λ (t : List Expected). recordsFault t (drop at b)) (sym (next-record i l))
-        ∙ sym inv
+  module _ (start at i : ℕ) (inv : recordsFault es (drop start b) ≡ recordsFault (drop i es) (drop at b)) where
+    module _ (l : i < 8) (t : Taken) (own : t ≡ judgedAt (floatsRecord (getD ms i 0) (getD ns i 0)) b at) where
+      here : recordsFault es (drop start b) ≡ recordsFault (floatsRecord (getD ms i 0) (getD ns i 0) ∷ drop (i + 1) es) (drop at b)
+      here = inv ∙ ap (λ (t : List Expected). recordsFault t (drop at b)) (next-record i l)
 
-    pub floats-go : i < 8 → f ≡ recordFault (floats (getD ms i 0) (getD ns i 0)) (drop at b) → f ≡ 0 →
-        recordsFault es (drop start b) ≡ recordsFault (drop (i + 1) es) (drop (at + (6 + 8 * getD ns i 0)) b)
-    floats-go l p h =
-        inv
-        ∙ ap (λ (t : List Expected). recordsFault t (drop at b)) (next-record i l)
-        ∙ sym (walk-goes (floats (getD ms i 0) (getD ns i 0)) (drop (i + 1) es) b at f p (recordsFault (drop (i + 1) es) (drop (at + (6 + 8 * getD ns i 0)) b)) h refl)
+      pub floats-stay : (f : ℕ) → t ≡ Fault f → f ≡ recordsFault es (drop start b)
+      floats-stay f h = walk-stays (floatsRecord (getD ms i 0) (getD ns i 0)) b at t own (drop (i + 1) es) f h ∙ sym here
 
-    pub floats-end : 8 ≤ i → at ≤ length b → f ≡ first (eqb at (length b)) trailing 0 → f ≡ recordsFault es (drop start b)
+      pub floats-go : (p q : ℕ) → t ≡ At p q → recordsFault es (drop start b) ≡ recordsFault (drop (i + 1) es) (drop q b)
+      floats-go p q h = here ∙ sym (walk-goes (floatsRecord (getD ms i 0) (getD ns i 0)) b at t own p q h (drop (i + 1) es) _ refl)
+
+    pub floats-end : (f : ℕ) → 8 ≤ i → at ≤ length b → f ≡ first (eqb at (length b)) trailing 0 → f ≡ recordsFault es (drop start b)
     unfolding recordsFault floatRecords
-    floats-end l k p =
-        let long : length es ≤ i = omega (arith, length-row 8 (λ i. floats (getD ms i 0) (getD ns i 0)), l) in
+    floats-end f l k p =
+        let long : length es ≤ i = omega (arith, length-row 8 (λ i. floatsRecord (getD ms i 0) (getD ns i 0)), l) in
         let done : drop i es ≡ [] = drop-of-length-le es long in
         p
         ∙ ap (λ (t : Bool). first t trailing 0) (over (eqb at (length b)) refl)
@@ -208,39 +224,44 @@ pub eight-are : (n : Lengths) → storeRecords n ≡ idsRecord (n .ids) ∷ floa
 unfolding floatRecords joined
 eight-are n = refl
 
--- ---- the whole: GH, then ML, then the stores
-module _ (b g : List ℕ) (f : ℕ) (own : g ≡ headOf b) (p : f ≡ recordFault headRecord b) where
-  pub bytes-head : (f ≡ 0 → ⊥) → f ≡ bytesFault b
+pub stores-same : (n m : Lengths) (l : List ℕ) (k : ℕ) → k ≡ recordsFault (storeRecords n) l → n ≡ m → k ≡ recordsFault (storeRecords m) l
+stores-same n m l k p e = p ∙ ap (λ (x : Lengths). recordsFault (storeRecords x) l) e
+
+-- ---- the whole: GH, then what its numbers g make expected
+pub few-materials : (g : List ℕ) → faultOf (bare g) ≡ 0 → countOf g ≤ 16
+unfolding bare ghOf
+few-materials g ok = sound (bare g) ok .materials
+
+module _ (b : List ℕ) (t : Taken) (own : t ≡ judgedAt headRecord b 0) where
+  pub bytes-head : (f : ℕ) → t ≡ Fault f → f ≡ bytesFault b
   unfolding bytesFault tableOf table
-  bytes-head h = walk-stays headRecord _ b 0 f p h
+  bytes-head f h = walk-stays headRecord b 0 t own _ f h
 
-  module _ (h : f ≡ 0) (k : ℕ) (q : k ≡ recordFault (listRecord g) (drop 79 b)) where
-    abbrev rest : List Expected
-    rest = storeRecords (storeLengths (bare g))
+  module _ (p q : ℕ) (h : t ≡ At p q) where
+    judged : 0 ≡ recordFault headRecord b
+    unfolding judgedAt
+    judged = by-start (recordFault headRecord b) 0 ghLength p q (sym own ∙ h) .0
 
-    from-list : (m : ℕ) → m ≡ recordsFault (listRecord g ∷ rest) (drop 79 b) → m ≡ bytesFault b
-    unfolding bytesFault tableOf table
-    from-list m e =
-        walk-goes headRecord (listRecord g ∷ rest) b 0 f p m h e
-        ∙ ap (λ (x : List ℕ). recordsFault (headRecord ∷ listRecord x ∷ storeRecords (storeLengths (bare x))) b) own
+    starts : p ≡ 6
+    unfolding judgedAt
+    starts = by-start (recordFault headRecord b) 0 ghLength p q (sym own ∙ h) .1
 
-    pub bytes-list : (k ≡ 0 → ⊥) → k ≡ bytesFault b
-    bytes-list z = from-list k (walk-stays (listRecord g) rest b 79 k q z)
+    pub head-place : p + ghLength ≤ length b
+    head-place = omega (arith, starts, head-room b 0 judged refl)
 
-    pub bytes-stores : (n : Lengths) (m : ℕ) → k ≡ 0 → n ≡ storeLengths (bare g) → m ≡ recordsFault (storeRecords n) (drop (85 + 125 * countOf g) b) → m ≡ bytesFault b
-    bytes-stores n m z e w =
-        let place : 85 + 125 * countOf g ≡ 79 + (6 + 125 * countOf g) = omega arith in
-        from-list m
-        (walk-goes (listRecord g) rest b 79 k q m z
-        (w ∙ ap (λ (x : Lengths). recordsFault (storeRecords x) (drop (85 + 125 * countOf g) b)) e ∙ ap (λ (i : ℕ). recordsFault rest (drop i b)) place))
+    module _ (g : List ℕ) (read : g ≡ headOf (drop p b)) where
+      head-own : g ≡ saveHead b
+      head-own = read ∙ ap (λ (i : ℕ). headOf (drop i b)) starts
 
-    pub list-room : k ≡ 0 → 85 + 125 * countOf g ≤ length b
-    list-room z = omega (arith, record-left (listRecord g) b 79 k q z (head-room b f p h))
+      pub head-fits : ((i : ℕ) → getD b i 0 < 256) → (q ≤ length b) × (getD g 25 0 ≤ 4294967295) × (faultOf (bare g) ≡ 0)
+      head-fits small = (
+        walk-room headRecord b 0 t own p q h (omega arith),
+        subst (λ (x : List ℕ). getD x 25 0 ≤ 4294967295) (sym head-own) (steps-small b (head-room b 0 judged refl) small),
+        subst (λ (x : List ℕ). faultOf (bare x) ≡ 0) (sym head-own) (head-none b 0 judged refl),
+      )
 
--- ---- the materials, read one after another
-module _ (s t : List DispersiveMaterial) (i : ℕ) (f : ℕ → DispersiveMaterial) (long : length s ≡ 16) (done : t ≡ put s 0 (row i f)) where
-  pub materials-more : (v : DispersiveMaterial) → i < 16 → v ≡ f i → set t i v ≡ put s 0 (row (i + 1) f)
-  materials-more v h e = ap (λ (k : ℕ). set t k v) (sym (zero-add i)) ∙ row-more s t 0 i v f (omega arith) done e
-
-  pub materials-all : i ≡ 16 → t ≡ row 16 f
-  materials-all e = done ∙ ap (λ (k : ℕ). put s 0 (row k f)) e ∙ put-whole s (row 16 f) (length-row 16 f ∙ sym long)
+      pub bytes-rest : (k : ℕ) → k ≡ recordsFault (listRecord g ∷ storeRecords (storeLengths (bare g))) (drop q b) → k ≡ bytesFault b
+      unfolding bytesFault tableOf table
+      bytes-rest k w =
+          walk-goes headRecord b 0 t own p q h (listRecord g ∷ storeRecords (storeLengths (bare g))) k w
+          ∙ ap (λ (x : List ℕ). recordsFault (headRecord ∷ listRecord x ∷ storeRecords (storeLengths (bare x))) b) head-own

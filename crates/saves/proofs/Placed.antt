@@ -24,8 +24,11 @@ use Rattle.grid.specs.Fault.{beyond}
 use Rattle.cpml.specs.Memory.{inOrder, memoryOf}
 use Rattle.cpml.proofs.Memories.{part-in, either-long, memory-in-order}
 use Rattle.format.specs.Records.{Piece, piece, framed, frames}
-use Rattle.format.specs.Save.{markGH, markML, markCI, markCM, markFE, markFH, markLE, markLH, markLT, markPP, markAX, headBytes, materialBytes, listBytes, pieces, saveBytes}
-use Rattle.saves.specs.Room.{Roomy}
+use Rattle.heads.specs.Numbers.{mlLength}
+use Rattle.heads.specs.Payloads.{headBytes, materialBytes}
+use Rattle.format.specs.Save.{markGH, markML, markCI, markCM, markFE, markFH, markLE, markLH, markLT, markPP, markAX, listBytes, pieces, saveBytes}
+use Rattle.saves.specs.Inner.Places.{listPlace, storesPlace}
+use Rattle.saves.specs.Inner.Room.{Roomy}
 use Rattle.format.proofs.Written.{extent, frames-long, floats-long, ids-long, head-long, material-long, list-long}
 
 pub frames-append : (ps qs : List Piece) → frames (ps ++ qs) ≡ frames ps ++ frames qs
@@ -123,12 +126,12 @@ pub memories-floats : {P : Type 0} (at p n : ℕ) (xs : List Float) → length x
 memories-floats at p n xs long e = (omega (arith, long, e .0), e .1)
 
 -- ---- the materials
-pub list-more : (s t u : List ℕ) (at i n : ℕ) (ms : List DispersiveMaterial) → at + 125 * n ≤ length s → i < n →
-    t ≡ put s at (joined i (λ k. materialBytes (getD ms k beyond))) → u ≡ put t (at + 125 * i) (materialBytes (getD ms i beyond)) →
+pub list-more : (s t u : List ℕ) (at i n : ℕ) (ms : List DispersiveMaterial) → at + mlLength * n ≤ length s → i < n →
+    t ≡ put s at (joined i (λ k. materialBytes (getD ms k beyond))) → u ≡ put t (at + mlLength * i) (materialBytes (getD ms i beyond)) →
     u ≡ put s at (joined (i + 1) (λ k. materialBytes (getD ms k beyond)))
 list-more s t u at i n ms e h p q =
-    let place : at + 125 * i ≡ at + i * 125 = omega arith in
-    joined-more s t u at i 125 (λ k. materialBytes (getD ms k beyond)) (λ k. material-long (getD ms k beyond)) (omega (arith, e, h)) p
+    let place : at + mlLength * i ≡ at + i * mlLength = omega arith in
+    joined-more s t u at i mlLength (λ k. materialBytes (getD ms k beyond)) (λ k. material-long (getD ms k beyond)) (omega (arith, e, h)) p
     (q ∙ ap (λ (k : ℕ). put t k (materialBytes (getD ms i beyond))) place)
 
 pub list-all : (s t : List ℕ) (at i : ℕ) (r : Record) → t ≡ put s at (joined i (λ k. materialBytes (getD (r .materials) k beyond))) → i ≡ r .«material_count» → t ≡ put s at (listBytes r)
@@ -158,11 +161,11 @@ module _ (r : Record) (s : Stores) where
   abbrev nLayer : ℕ
   nLayer = 18 + 8 * length (s .psiE) + 8 * length (s .psiH) + 8 * length (s .tables)
 
-  heads-extent : extent heads ≡ 79
+  heads-extent : extent heads ≡ listPlace
   unfolding extent
   heads-extent = omega (arith, head-long r)
 
-  lists-extent : extent lists ≡ 6 + 125 * r .«material_count»
+  lists-extent : extent lists ≡ 6 + mlLength * r .«material_count»
   unfolding extent
   lists-extent = omega (arith, list-long r)
 
@@ -180,12 +183,12 @@ module _ (r : Record) (s : Stores) where
 
   pub whole-put : (l a b c d o : List ℕ) (p q t : ℕ) →
       Roomy (r .«material_count») (length (s .electric)) (length (s .magnetic)) (length (s .media)) (length (s .psiE)) (length (s .psiH)) (length (s .tables)) (length (s .poles)) (length (s .aux)) (length (s .ids)) (length l) →
-      a ≡ put l 0 (frames heads) → (p ≡ 85 + 125 * r .«material_count») × (b ≡ put a 79 (frames lists)) → (q ≡ p + nCells) × (c ≡ put b p (frames cellular)) →
+      a ≡ put l 0 (frames heads) → (p ≡ storesPlace (r .«material_count»)) × (b ≡ put a listPlace (frames lists)) → (q ≡ p + nCells) × (c ≡ put b p (frames cellular)) →
       (t ≡ q + nLayer) × (d ≡ put c q (frames layered)) → o ≡ put d t (frames ends) → o ≡ put l 0 (saveBytes r s)
   unfolding saveBytes pieces
   whole-put l a b c d o p q t room e1 e2 e3 e4 e5 =
-      let w1 : Wrote l 0 heads 79 a 79 = record { is = e1; long = heads-extent; ends = refl } in
-      let w2 = wrote-then l a b 0 79 p 79 (6 + 125 * r .«material_count») heads lists w1 lists-extent (omega (arith, e2 .0)) (e2 .1) (omega (arith, room .all)) in
+      let w1 : Wrote l 0 heads listPlace a listPlace = record { is = e1; long = heads-extent; ends = refl } in
+      let w2 = wrote-then l a b 0 listPlace p listPlace (6 + mlLength * r .«material_count») heads lists w1 lists-extent (omega (arith, e2 .0)) (e2 .1) (omega (arith, room .all)) in
       let w3 = wrote-then l b c 0 p q _ nCells (heads ++ lists) cellular w2 cells-extent (e3 .0) (e3 .1) (omega (arith, room .all)) in
       let w4 = wrote-then l c d 0 q t _ nLayer (heads ++ lists ++ cellular) layered w3 layer-extent (e4 .0) (e4 .1) (omega (arith, room .all)) in
       let w5 = wrote-then l d o 0 t _ _ (12 + 8 * length (s .poles) + 8 * length (s .aux)) (heads ++ lists ++ cellular ++ layered) ends w4 ends-extent refl e5 (omega (arith, room .all)) in

@@ -17,10 +17,11 @@ use Rattle.grid.proofs.Settled.{turned-down, taken-up, with-none}
 use Rattle.grid.proofs.Judging.{sound}
 use Rattle.grid.proofs.Tests.{or-none, or-stays}
 use Rattle.heads.specs.Numbers.{ghOf}
+use Rattle.heads.specs.Payloads.{countOf, materialsOf, recordOf}
 use Rattle.format.specs.Records.{Expected, recordFault, recordsFault, payloadFrom}
 use Rattle.format.specs.Save.{saveLength}
-use Rattle.format.specs.Rewind.{headOf, countOf, bare, materialsOf, headRecord, listRecord, table, tableOf, bytesFault, payloadOf, readRecord, readStores, rewindFault, rewindCall}
-use Rattle.saves.specs.Places.{storesAt}
+use Rattle.format.specs.Rewind.{saveHead, bare, headRecord, listRecord, table, tableOf, bytesFault, payloadOf, readRecord, readStores, rewindFault, rewindCall}
+use Rattle.saves.specs.Inner.Places.{listPlace, entriesPlace, storesPlace, storesAt}
 use Rattle.format.proofs.Written.{save-long}
 use Rattle.format.proofs.Bare.{bare-lengths}
 use Rattle.format.proofs.Back.{nine-same}
@@ -33,24 +34,24 @@ all-bytes b h = every-of (λ x. ltb x 256) b 0 (λ i _. lt→ltb (getD b i 0) 25
 
 -- ---- GH and ML
 module _ (b : List ℕ) (ok : bytesFault b ≡ 0) where
-  parts : (recordFault headRecord b ≡ 0) × (recordFault (listRecord (headOf b)) (drop 79 b) ≡ 0)
+  parts : (recordFault headRecord b ≡ 0) × (recordFault (listRecord (saveHead b)) (drop listPlace b) ≡ 0)
   unfolding bytesFault tableOf table recordsFault
   parts =
       let z = or-none (recordFault headRecord b) _ ok in
-      (z .0, or-none (recordFault (listRecord (headOf b)) (drop 79 b)) _ (z .1) .0)
+      (z .0, or-none (recordFault (listRecord (saveHead b)) (drop listPlace b)) _ (z .1) .0)
 
-  pub gh-room : 79 ≤ length b
+  pub gh-room : listPlace ≤ length b
   gh-room = head-room b 0 (sym (parts .0)) refl
 
-  pub ml-few : countOf (headOf b) ≤ 16
+  pub ml-few : countOf (saveHead b) ≤ 16
   ml-few = head-count b 0 (sym (parts .0)) refl
 
-  pub ml-room : 85 + 125 * countOf (headOf b) ≤ length b
-  ml-room = omega (arith, record-left (listRecord (headOf b)) b 79 0 (sym (parts .1)) refl gh-room)
+  pub ml-room : storesPlace (countOf (saveHead b)) ≤ length b
+  ml-room = omega (arith, record-left (listRecord (saveHead b)) b listPlace 0 (sym (parts .1)) refl gh-room)
 
-pub record-read : (b : List ℕ) → ghOf (headOf b) (materialsOf (countOf (headOf b)) (drop 85 b)) ≡ readRecord b
+pub record-read : (b : List ℕ) → recordOf (saveHead b) (drop entriesPlace b) ≡ readRecord b
 unfolding readRecord tableOf table payloadFrom
-record-read b = ap (λ (p : List ℕ). ghOf (headOf b) (materialsOf (countOf (headOf b)) p)) (sym (drop-drop 6 79 b))
+record-read b = ap (recordOf (saveHead b)) (sym (drop-drop 6 listPlace b))
 
 -- ---- the stores
 placeOf : List Expected → ℕ → ℕ
@@ -83,14 +84,14 @@ stores-got n b at p q e h m pe ph t po a i x y z =
 
 module _ (b : List ℕ) where
   abbrev n : Lengths
-  n = storeLengths (bare (headOf b))
+  n = storeLengths (bare (saveHead b))
 
   abbrev at : ℕ
-  at = 85 + 125 * countOf (headOf b)
+  at = storesPlace (countOf (saveHead b))
 
-  place : (i k : ℕ) → i < 11 → placeOf (tableOf (headOf b)) i ≡ k → drop k b ≡ payloadOf b i
+  place : (i k : ℕ) → i < 11 → placeOf (tableOf (saveHead b)) i ≡ k → drop k b ≡ payloadOf b i
   unfolding tableOf table
-  place i k h e = sym (at-place (tableOf (headOf b)) i b h ∙ ap (λ (j : ℕ). drop j b) e)
+  place i k h e = sym (at-place (tableOf (saveHead b)) i b h ∙ ap (λ (j : ℕ). drop j b) e)
 
   -- the stores that a save says, where code looks for them
   pub stores-read : storesAt n b at ≡ readStores b
@@ -120,7 +121,7 @@ module _ (standing : Record) (s : Stores) (b : List ℕ) (f : ℕ) (p : f ≡ by
     bytes : T (bytesFit b)
     bytes = all-bytes b small
 
-    pub count-own : r .«material_count» ≡ countOf (headOf b)
+    pub count-own : r .«material_count» ≡ countOf (saveHead b)
     unfolding readRecord ghOf
     count-own = ap (λ (q : Record). q .«material_count») own
 
@@ -153,12 +154,12 @@ module _ (standing : Record) (s : Stores) (b : List ℕ) (f : ℕ) (p : f ≡ by
             subst (λ (t : Record). RoomFor t s (length b)) (sym own)
             (roomy (readRecord b) s (length b) (length b) (sound (readRecord b) (read-none b bytes none)) fit long (omega arith))
 
-        pub rewind-done : (t : Stores) → t ≡ storesAt (lengthsOf s) b (85 + 125 * r .«material_count») → outcome 0 r t ≡ rewindCall standing s b
+        pub rewind-done : (t : Stores) → t ≡ storesAt (lengthsOf s) b (storesPlace (r .«material_count»)) → outcome 0 r t ≡ rewindCall standing s b
         unfolding rewindCall readRecord
         rewind-done t e =
-            let lengths : lengthsOf s ≡ storeLengths (bare (headOf b)) = fit ∙ sym (bare-lengths (headOf b) (materialsOf (countOf (headOf b)) (payloadOf b 1))) in
+            let lengths : lengthsOf s ≡ storeLengths (bare (saveHead b)) = fit ∙ sym (bare-lengths (saveHead b) (materialsOf (countOf (saveHead b)) (payloadOf b 1))) in
             taken-up k (rewindFault b (lengthsOf s)) standing r (readRecord b) s t (readStores b) fault-is z own
             (e
-            ∙ ap (λ (l : Lengths). storesAt l b (85 + 125 * r .«material_count»)) lengths
-            ∙ ap (λ (c : ℕ). storesAt (storeLengths (bare (headOf b))) b (85 + 125 * c)) count-own
+            ∙ ap (λ (l : Lengths). storesAt l b (storesPlace (r .«material_count»))) lengths
+            ∙ ap (λ (c : ℕ). storesAt (storeLengths (bare (saveHead b))) b (storesPlace c)) count-own
             ∙ stores-read b)

@@ -1,3 +1,2 @@
 -- What the contracts of the inner functions of saves cite.
-pub mod Room
-pub mod Places
+pub mod Inner

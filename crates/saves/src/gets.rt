@@ -5,10 +5,11 @@ ghost use lib.ListN.{length, drop};
 ghost use Rattle.codec.specs.Bytes.{floatsOf, idsOf};
 ghost use Rattle.grid.specs.Stores.{stores, lengthsOf};
 ghost use Rattle.format.specs.Rewind.{bytesFault, readRecord};
-ghost use Rattle.saves.specs.Places.{storesAt};
-use crate::judge;
+ghost use Rattle.saves.specs.Inner.Places.{storesAt};
+use crate::puts::ENTRIES_PLACE;
 use codec::stores;
 use grid::Record;
+use heads::entries;
 use heads::payloads;
 
 pub fn get_record(b: &[u8]) -> Record
@@ -16,7 +17,7 @@ pub fn get_record(b: &[u8]) -> Record
     ensures { λ r. ⌜ r ≡ readRecord (now (b .entry)) ⌝ }
 {
     let g = payloads::get_gh(b, 6);
-    let materials = judge::get_materials(b, 85, g[12] as usize);
+    let materials = entries::get_materials(b, ENTRIES_PLACE, g[12] as usize);
     heads::gh_of(g, materials)
 }
 

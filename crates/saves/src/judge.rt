@@ -1,12 +1,15 @@
 // The first fault of a save's bytes, record by record.
 ghost use mathlib.Core.Path.{_≡_};
+ghost use mathlib.Core.List.{_∷_};
 ghost use Prim.Native.Nat.{_+_, _*_, _≤_, _<_};
 ghost use lib.ListN.{length, drop, getD};
-ghost use Rattle.heads.specs.Numbers.{mlFine};
-ghost use Rattle.grid.specs.Fault.{allBelow};
-ghost use Rattle.format.specs.Records.{recordFault, recordsFault};
-ghost use Rattle.format.specs.Rewind.{bare, countOf, headGood, entryOf, materialOf, materialsOf, listGood, headRecord, listRecord, idsRecord, floats, storeRecords, bytesFault};
-ghost use Rattle.saves.specs.Places.{floatRecords, Few, Small};
+ghost use Rattle.heads.specs.Numbers.{mlLength, mlFine};
+ghost use Rattle.heads.specs.Payloads.{countOf, entryAt};
+ghost use Rattle.grid.specs.Fault.{allBelow, faultOf};
+ghost use Rattle.grid.specs.Stores.{storeLengths};
+ghost use Rattle.format.specs.Records.{recordsFault};
+ghost use Rattle.format.specs.Rewind.{bare, headGood, listGood, headRecord, listRecord, idsRecord, floatsRecord, storeRecords, bytesFault};
+ghost use Rattle.saves.specs.Inner.Places.{passedBy, judgedAt, floatRecords, Few, Small};
 use crate::puts;
 use codec::frame;
 use codec::stores;
@@ -15,6 +18,9 @@ use frames::Taken;
 use grid::Record;
 use grid::fault;
 use grid::stores::Lengths;
+use heads::GH_LENGTH;
+use heads::ML_LENGTH;
+use heads::entries;
 use heads::payloads;
 
 pub const TRAILING: u32 = 16;
@@ -37,26 +43,36 @@ fn head_good(g: [u64; 26]) -> bool
     heads::gh_fine(g) & (fault::fault_of(r) == 0)
 }
 
-fn head_fault(b: &[u8]) -> u32
-    ensures { λ f. ⌜ f ≡ recordFault headRecord (now (b .entry)) ⌝ }
+// A record whose frame has no fault, its payload judged.
+fn passed(good: bool, start: usize, next: usize) -> Taken
+    ensures { λ t. ⌜ t ≡ passedBy good start next ⌝ }
 {
-    match frames::take_at(b, 0, puts::GH, 73) {
-        Taken::Fault(f) => f,
-        Taken::At { start, next: _ } => {
+    if good {
+        return Taken::At { start, next };
+    }
+    Taken::Fault(frame::BAD_RECORD)
+}
+
+fn take_head(b: &[u8]) -> Taken
+    ensures { λ t. ⌜ t ≡ judgedAt headRecord (now (b .entry)) 0 ⌝ }
+{
+    match frames::take_at(b, 0, puts::GH, GH_LENGTH as u32) {
+        Taken::Fault(f) => Taken::Fault(f),
+        Taken::At { start, next } => {
             let g = payloads::get_gh(b, start);
-            fault::first_fault(head_good(g), frame::BAD_RECORD, 0)
+            passed(head_good(g), start, next)
         }
     }
 }
 
 // Whether each of the materials from at on is fine.
 fn entries_fine(b: &[u8], at: usize, count: usize) -> bool
-    requires { ⌜ (at + 125 * count ≤ length (now b)) × (count ≤ 16) ⌝ }
-    ensures { λ t. ⌜ t ≡ allBelow (λ i. mlFine (entryOf (drop at (now (b .entry))) i)) count ⌝ }
+    requires { ⌜ (at + mlLength * count ≤ length (now b)) × (count ≤ 16) ⌝ }
+    ensures { λ t. ⌜ t ≡ allBelow (λ i. mlFine (entryAt (drop at (now (b .entry))) i)) count ⌝ }
 {
     let mut i = 0;
     while i < count {
-        let n = payloads::get_ml(b, at + 125 * i);
+        let n = payloads::get_ml(b, at + ML_LENGTH * i);
         if !heads::ml_fine(n) {
             return false;
         }
@@ -65,90 +81,61 @@ fn entries_fine(b: &[u8], at: usize, count: usize) -> bool
     true
 }
 
-fn get_material(b: &[u8], at: usize, count: usize, i: usize) -> DispersiveMaterial
-    requires { ⌜ (at + 125 * count ≤ length (now b)) × (count ≤ 16) ⌝ }
-    ensures { λ m. ⌜ m ≡ materialOf count (drop at (now (b .entry))) i ⌝ }
-{
-    if count <= i {
-        return DispersiveMaterial::vacuum();
-    }
-    let n = payloads::get_ml(b, at + 125 * i);
-    heads::ml_of(n)
-}
-
-pub fn get_materials(b: &[u8], at: usize, count: usize) -> [DispersiveMaterial; 16]
-    requires { ⌜ (at + 125 * count ≤ length (now b)) × (count ≤ 16) ⌝ }
-    ensures { λ l. ⌜ l ≡ materialsOf count (drop at (now (b .entry))) ⌝ }
-{
-    let vacuum = DispersiveMaterial::vacuum();
-    let mut materials = [vacuum; 16];
-    let mut i = 0;
-    while i < 16 {
-        materials[i] = get_material(b, at, count, i);
-        i += 1;
-    }
-    materials
-}
-
 fn list_good(b: &[u8], at: usize, g: [u64; 26]) -> bool
-    requires { ⌜ (at + 125 * countOf g ≤ length (now b)) × (countOf g ≤ 16) × (getD g 25 0 ≤ 4294967295) ⌝ }
+    requires { ⌜ (at + mlLength * countOf g ≤ length (now b)) × (countOf g ≤ 16) × (getD g 25 0 ≤ 4294967295) ⌝ }
     ensures { λ t. ⌜ t ≡ listGood g (drop at (now (b .entry))) ⌝ }
 {
     let count = g[12] as usize;
-    let materials = get_materials(b, at, count);
+    let materials = entries::get_materials(b, at, count);
     let r = heads::gh_of(g, materials);
     entries_fine(b, at, count) & (fault::fault_of(r) == 0)
 }
 
-fn list_fault(b: &[u8], at: usize, g: [u64; 26]) -> u32
+fn take_list(b: &[u8], at: usize, g: [u64; 26]) -> Taken
     requires { ⌜ (at ≤ length (now b)) × (countOf g ≤ 16) × (getD g 25 0 ≤ 4294967295) ⌝ }
-    ensures { λ f. ⌜ f ≡ recordFault (listRecord g) (drop at (now (b .entry))) ⌝ }
+    ensures { λ t. ⌜ t ≡ judgedAt (listRecord g) (now (b .entry)) at ⌝ }
 {
-    let n = 125 * g[12];
+    let n = ML_LENGTH * g[12] as usize;
     match frames::take_at(b, at, puts::ML, n as u32) {
-        Taken::Fault(f) => f,
-        Taken::At { start, next: _ } => {
-            fault::first_fault(list_good(b, start, g), frame::BAD_RECORD, 0)
-        }
+        Taken::Fault(f) => Taken::Fault(f),
+        Taken::At { start, next } => passed(list_good(b, start, g), start, next),
     }
 }
 
-fn ids_fault(b: &[u8], at: usize, n: usize) -> u32
+// Ids may be any number.
+fn take_ids(b: &[u8], at: usize, n: usize) -> Taken
     requires { ⌜ (at ≤ length (now b)) × (n ≤ 28311552) ⌝ }
-    ensures { λ f. ⌜ f ≡ recordFault (idsRecord n) (drop at (now (b .entry))) ⌝ }
+    ensures { λ t. ⌜ t ≡ judgedAt (idsRecord n) (now (b .entry)) at ⌝ }
 {
-    match frames::take_at(b, at, puts::CI, (4 * n) as u32) {
-        Taken::Fault(f) => f,
-        Taken::At { start: _, next: _ } => 0,
-    }
+    frames::take_at(b, at, puts::CI, (4 * n) as u32)
 }
 
-fn floats_fault(b: &[u8], at: usize, mark: u16, n: usize) -> u32
+fn take_floats(b: &[u8], at: usize, mark: u16, n: usize) -> Taken
     requires { ⌜ (at ≤ length (now b)) × (n ≤ 28311552) ⌝ }
-    ensures { λ f. ⌜ f ≡ recordFault (floats mark n) (drop at (now (b .entry))) ⌝ }
+    ensures { λ t. ⌜ t ≡ judgedAt (floatsRecord mark n) (now (b .entry)) at ⌝ }
 {
     match frames::take_at(b, at, mark, (8 * n) as u32) {
-        Taken::Fault(f) => f,
-        Taken::At { start, next: _ } => {
-            fault::first_fault(stores::check_f64s(b, start, n), frame::BAD_RECORD, 0)
-        }
+        Taken::Fault(f) => Taken::Fault(f),
+        Taken::At { start, next } => passed(stores::check_f64s(b, start, n), start, next),
     }
 }
 
 // Records of floats from start on, then nothing more.
-fn floats_faults(b: &[u8], start: usize, marks: [u16; 8], counts: [usize; 8]) -> u32
+fn floats_fault(b: &[u8], start: usize, marks: [u16; 8], counts: [usize; 8]) -> u32
     requires { ⌜ (start ≤ length (now b)) × Few counts ⌝ }
     ensures { λ f. ⌜ f ≡ recordsFault (floatRecords marks counts) (drop start (now (b .entry))) ⌝ }
 {
     let mut at = start;
     let mut i = 0;
     while i < 8 {
-        let n = counts[i];
-        let f = floats_fault(b, at, marks[i], n);
-        if f != 0 {
-            return f;
+        match take_floats(b, at, marks[i], counts[i]) {
+            Taken::Fault(f) => {
+                return f;
+            }
+            Taken::At { start: _, next } => {
+                at = next;
+            }
         }
-        at += 6 + 8 * n;
         i += 1;
     }
     fault::first_fault(at == b.len(), TRAILING, 0)
@@ -159,10 +146,6 @@ fn stores_fault(b: &[u8], at: usize, n: Lengths) -> u32
     requires { ⌜ (at ≤ length (now b)) × Small n ⌝ }
     ensures { λ f. ⌜ f ≡ recordsFault (storeRecords n) (drop at (now (b .entry))) ⌝ }
 {
-    let f = ids_fault(b, at, n.ids);
-    if f != 0 {
-        return f;
-    }
     let marks = [
         puts::CM,
         puts::FE,
@@ -183,22 +166,34 @@ fn stores_fault(b: &[u8], at: usize, n: Lengths) -> u32
         n.poles,
         n.aux,
     ];
-    floats_faults(b, at + (6 + 4 * n.ids), marks, counts)
+    match take_ids(b, at, n.ids) {
+        Taken::Fault(f) => f,
+        Taken::At { start: _, next } => floats_fault(b, next, marks, counts),
+    }
+}
+
+// What follows GH, whose numbers are g.
+fn rest_fault(b: &[u8], at: usize, g: [u64; 26]) -> u32
+    requires { ⌜ (at ≤ length (now b)) × (getD g 25 0 ≤ 4294967295) × (faultOf (bare g) ≡ 0) ⌝ }
+    ensures { λ f. ⌜ f ≡ recordsFault (listRecord g ∷ storeRecords (storeLengths (bare g))) (drop at (now (b .entry))) ⌝ }
+{
+    match take_list(b, at, g) {
+        Taken::Fault(f) => f,
+        Taken::At { start: _, next } => {
+            let r = bare_record(g);
+            stores_fault(b, next, grid::stores::store_lengths(r))
+        }
+    }
 }
 
 pub fn bytes_fault(b: &[u8]) -> u32
     ensures { λ f. ⌜ f ≡ bytesFault (now (b .entry)) ⌝ }
 {
-    let f = head_fault(b);
-    if f != 0 {
-        return f;
+    match take_head(b) {
+        Taken::Fault(f) => f,
+        Taken::At { start, next } => {
+            let g = payloads::get_gh(b, start);
+            rest_fault(b, next, g)
+        }
     }
-    let g = payloads::get_gh(b, 6);
-    let k = list_fault(b, 79, g);
-    if k != 0 {
-        return k;
-    }
-    let r = bare_record(g);
-    let n = grid::stores::store_lengths(r);
-    stores_fault(b, 85 + 125 * g[12] as usize, n)
 }

@@ -5,14 +5,16 @@ pub mod puts;
 
 ghost use mathlib.Core.Path.{_≡_};
 ghost use Rattle.grid.specs.Stores.{stores, outcome};
-ghost use Rattle.grid.specs.Sound.{Sound};
+ghost use Rattle.grid.specs.Inner.Sound.{Sound};
 ghost use Rattle.format.specs.Save.{saveLength, lengthCall, saveCall};
 ghost use Rattle.format.specs.Rewind.{rewindCall};
+use crate::puts::ENTRIES_PLACE;
 use grid::Answer;
 use grid::Record;
 use grid::fault;
 use grid::stores;
 use grid::stores::Lengths;
+use heads::ML_LENGTH;
 
 pub const NO_ROOM: u32 = 12;
 
@@ -143,7 +145,7 @@ pub fn rewind(
             study: standing,
         };
     }
-    let at = 85 + 125 * r.material_count;
+    let at = ENTRIES_PLACE + ML_LENGTH * r.material_count;
     gets::get_stores(b, at, e, h, media, psi_e, psi_h, tables, poles, aux, ids);
     Answer {
         refusal: 0,

@@ -8,14 +8,19 @@ ghost use Rattle.codec.specs.Lists.{put};
 ghost use Rattle.codec.specs.Bytes.{floatsBytes, idsBytes};
 ghost use Rattle.grid.specs.Stores.{stores};
 ghost use Rattle.cpml.specs.Memory.{memoryOf};
+ghost use Rattle.heads.specs.Numbers.{mlLength};
+ghost use Rattle.heads.specs.Payloads.{headBytes};
 ghost use Rattle.format.specs.Records.{piece, frames};
-ghost use Rattle.format.specs.Save.{markGH, markML, markCI, markCM, markFE, markFH, markLE, markLH, markLT, markPP, markAX, headBytes, listBytes, saveBytes};
-ghost use Rattle.saves.specs.Room.{Roomy};
+ghost use Rattle.format.specs.Save.{markGH, markML, markCI, markCM, markFE, markFH, markLE, markLH, markLT, markPP, markAX, listBytes, saveBytes};
+ghost use Rattle.saves.specs.Inner.Places.{listPlace, storesPlace};
+ghost use Rattle.saves.specs.Inner.Room.{Roomy};
 use codec::frame;
 use codec::stores;
 use cpml::Psi;
 use cpml::memory;
 use grid::Record;
+use heads::GH_LENGTH;
+use heads::ML_LENGTH;
 use heads::payloads;
 
 pub const GH: u16 = 0x4847;
@@ -40,6 +45,11 @@ pub const PP: u16 = 0x5050;
 
 pub const AX: u16 = 0x5841;
 
+// Where ML's record begins, behind GH's, and where its materials do.
+pub const LIST_PLACE: usize = 6 + GH_LENGTH;
+
+pub const ENTRIES_PLACE: usize = LIST_PLACE + 6;
+
 // A record of floats; the place after it.
 fn put_floats(out: &mut [u8], at: usize, mark: u16, xs: &[f64]) -> usize
     requires { ⌜ (at + (6 + 8 * length (now xs)) ≤ length (now out)) × (length (now xs) ≤ 28311552) ⌝ }
@@ -63,34 +73,34 @@ fn put_ids(out: &mut [u8], at: usize, ids: &[u32]) -> usize
 
 // The counted materials.
 fn put_list(out: &mut [u8], at: usize, r: Record)
-    requires { ⌜ (at + 125 * r .«material_count» ≤ length (now out)) × (r .«material_count» ≤ 16) ⌝ }
+    requires { ⌜ (at + mlLength * r .«material_count» ≤ length (now out)) × (r .«material_count» ≤ 16) ⌝ }
     ensures { λ _. ⌜ now (out .exit) ≡ put (now (out .entry)) at (listBytes r) ⌝ }
 {
     let count = r.material_count;
     let mut i = 0;
     while i < count {
         let m = r.materials[i];
-        payloads::put_ml(out, at + 125 * i, m);
+        payloads::put_ml(out, at + ML_LENGTH * i, m);
         i += 1;
     }
 }
 
 fn put_head(out: &mut [u8], r: Record)
-    requires { ⌜ 79 ≤ length (now out) ⌝ }
+    requires { ⌜ listPlace ≤ length (now out) ⌝ }
     ensures { λ _. ⌜ now (out .exit) ≡ put (now (out .entry)) 0 (frames (piece markGH (headBytes r) ∷ [])) ⌝ }
 {
-    frame::put_frame(out, 0, GH, 73);
+    frame::put_frame(out, 0, GH, GH_LENGTH as u32);
     payloads::put_gh(out, 6, r);
 }
 
 fn put_materials(out: &mut [u8], r: Record) -> usize
-    requires { ⌜ (85 + 125 * r .«material_count» ≤ length (now out)) × (r .«material_count» ≤ 16) ⌝ }
-    ensures { λ n. ⌜ (n ≡ 85 + 125 * r .«material_count») × (now (out .exit) ≡ put (now (out .entry)) 79 (frames (piece markML (listBytes r) ∷ []))) ⌝ }
+    requires { ⌜ (storesPlace (r .«material_count») ≤ length (now out)) × (r .«material_count» ≤ 16) ⌝ }
+    ensures { λ n. ⌜ (n ≡ storesPlace (r .«material_count»)) × (now (out .exit) ≡ put (now (out .entry)) listPlace (frames (piece markML (listBytes r) ∷ []))) ⌝ }
 {
-    let n = 125 * r.material_count;
-    frame::put_frame(out, 79, ML, n as u32);
-    put_list(out, 85, r);
-    85 + n
+    let n = ML_LENGTH * r.material_count;
+    frame::put_frame(out, LIST_PLACE, ML, n as u32);
+    put_list(out, ENTRIES_PLACE, r);
+    ENTRIES_PLACE + n
 }
 
 // CI, CM, FE, FH.

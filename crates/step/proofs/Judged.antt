@@ -18,10 +18,10 @@ use Rattle.grid.specs.Stores.{Stores, lengthsOf, storeLengths, cells, faultWith
 use Rattle.grid.proofs.Tests.{and-left, and-right, first-none, or-none}
 use Rattle.grid.proofs.Settled.{with-none}
 use Rattle.ade.proofs.Advancing.{fit-of}
-use Rattle.tfsf.specs.Faces.{Corners}
+use Rattle.tfsf.specs.Inner.Faces.{Corners}
 use Rattle.tfsf.proofs.Faced.{corners-of}
 use Rattle.step.specs.Step.{lastStep, freshIds, stepFault}
-use Rattle.step.specs.Ready.{Ready}
+use Rattle.step.specs.Inner.Ready.{StepReady}
 
 -- ---- a test of every element, one more each time
 and-true : (a : Bool) → (a && true) ≡ a
@@ -110,7 +110,7 @@ left-is steps n m h e = go (leb n m) refl
     go true q = let low = leb-true n m q in q ∙ sym (le-leb (steps + n) lastStep (omega arith))
     go false q = let high = leb-false n m q in q ∙ sym (lt-leb (steps + n) lastStep (omega arith))
 
-pub ready : (r : Record) (s : Stores) (n : ℕ) → stepFault r (lengthsOf s) (s .ids) n ≡ 0 → Ready r s × (r .clock .steps + n ≤ lastStep)
+pub ready : (r : Record) (s : Stores) (n : ℕ) → stepFault r (lengthsOf s) (s .ids) n ≡ 0 → StepReady r s × (r .clock .steps + n ≤ lastStep)
 unfolding stepFault storeLengths faultLent
 ready r s n e =
     let four = or-none (faultWith r (lengthsOf s)) _ e in

@@ -1,3 +1,3 @@
 -- What the contracts of step cite.
 pub mod Step
-pub mod Ready
+pub mod Inner

@@ -11,10 +11,10 @@ use Rattle.grid.specs.declared.Record.{Record}
 use Rattle.grid.specs.declared.stores.Lengths.{Lengths}
 use Rattle.grid.specs.Edited.{withClock}
 use Rattle.grid.specs.Fault.{first, isAbsent}
-use Rattle.grid.specs.Stores.{Stores, stores, lengthsOf, orElse, faultWith, Outcome, settle}
+use Rattle.grid.specs.Stores.{Stores, stores, lengthsOf, orElse, faultWith, Outcome, settle, lineLength}
 use Rattle.ade.specs.Polarization.{polesAfter, deltaP}
 use Rattle.fdtd.specs.Halves.{halfH, psiAfter, magneticAfter, halfE, electricAfter}
-use Rattle.tfsf.specs.Line.{lineLength, lineH, lineE}
+use Rattle.tfsf.specs.Line.{lineH, lineE}
 use Rattle.tfsf.specs.Corrections.{correctH, correctE}
 
 -- ---- the refusals
@@ -27,7 +27,7 @@ spentClock = 11
 abbrev pub lastStep : ℕ
 lastStep = 4294967295
 
--- no id is at or above the built count, or dispersion is off
+-- no id is at or above the built count, or dispersion is off (the built count is 0)
 unfoldable pub freshIds : (built : ℕ) → List ℕ → Bool
 freshIds built ids = eqb built 0 || every (λ id. ltb id built) ids
 
@@ -56,16 +56,17 @@ unfoldable pub lineEnd : (eps0 c0 : Float) → Record → (sample : Float) → (
 lineEnd eps0 c0 r sample line = waved r (lineE eps0 c0 (r .spacings) (lineLength (r .nz)) sample line) line
 
 -- the polarizations': with dispersion off the pole store is left
-unfoldable pub polarized : (eps0 : Float) → Record → (ids : List ℕ) → (e poles : List Float) → List Float
-polarized eps0 r ids e poles = cond (eqb (r .«built_count») 0) poles (polesAfter eps0 r ids e poles)
+unfoldable pub polesStepped : (eps0 : Float) → Record → (ids : List ℕ) → (e poles : List Float) → List Float
+polesStepped eps0 r ids e poles = cond (eqb (r .«built_count») 0) poles (polesAfter eps0 r ids e poles)
 
--- ---- the stores after a step
+-- ---- the stores after a step: E at n and H at n - 1/2 become E at n + 1 and H at n + 1/2. line then has ex at n and hy at n + 1/2; the sample is what the source gives
+-- at n + 1. Both parts of a half step take the old memories: the ψ in the field's curl is the one that psiAfter stores
 unfoldable pub stepped : (eps0 mu0 c0 : Float) → Record → (sample : Float) → Stores → Stores
 stepped eps0 mu0 c0 r sample s =
     let line = lineMid mu0 r (s .aux) in
     let h = correctedH mu0 r (s .media) line (magneticAfter mu0 r (s .electric) (s .media) (s .tables) (s .psiH) (s .magnetic)) in
     let psiH = psiAfter halfH r (s .electric) (s .tables) (s .psiH) in
-    let poles = polarized eps0 r (s .ids) (s .electric) (s .poles) in
+    let poles = polesStepped eps0 r (s .ids) (s .electric) (s .poles) in
     let e = correctedE eps0 r (s .media) line (electricAfter eps0 r h (s .media) (s .tables) (deltaP r poles) (s .psiE) (s .electric)) in
     let psiE = psiAfter halfE r h (s .tables) (s .psiE) in
     stores e h (s .media) psiE psiH (s .tables) poles (lineEnd eps0 c0 r sample line) (s .ids)

@@ -8,8 +8,8 @@ ghost use Rattle.grid.specs.Edited.{withClock};
 ghost use Rattle.grid.specs.Stores.{cells, stores, outcome};
 ghost use Rattle.ade.specs.Polarization.{deltaP};
 ghost use Rattle.fdtd.specs.Halves.{halfH, psiAfter, magneticAfter, halfE, electricAfter};
-ghost use Rattle.step.specs.Step.{freshIds, stepFault, lineMid, correctedH, correctedE, lineEnd, polarized, stepped, ticked, lastStep, stepCall};
-ghost use Rattle.step.specs.Ready.{Wavy, Polar, Ready};
+ghost use Rattle.step.specs.Step.{freshIds, stepFault, lineMid, correctedH, correctedE, lineEnd, polesStepped, stepped, ticked, lastStep, stepCall};
+ghost use Rattle.step.specs.Inner.Ready.{Wavy, Polar, StepReady};
 use grid::Clock;
 use grid::Record;
 use grid::fault;
@@ -107,7 +107,7 @@ fn wave_e(eps0: f64, c0: f64, r: Record, sample: f64, media: &[f64], aux: &mut [
 
 fn polarize(eps0: f64, r: Record, ids: &[u32], e: &[f64], poles: &mut [f64])
     requires { ⌜ Polar r (now ids) (now e) (now poles) ⌝ }
-    ensures { λ _. ⌜ now (poles .exit) ≡ polarized eps0 r (now (ids .entry)) (now (e .entry)) (now (poles .entry)) ⌝ }
+    ensures { λ _. ⌜ now (poles .exit) ≡ polesStepped eps0 r (now (ids .entry)) (now (e .entry)) (now (poles .entry)) ⌝ }
 {
     if r.built_count != 0 {
         ade::advance(eps0, r, ids, e, poles);
@@ -151,8 +151,8 @@ fn electric_half(
     requires { ⌜ Wavy r (now media) (now aux) (now h) ⌝ }
     requires { ⌜ Polar r (now ids) (now e) (now poles) ⌝ }
     requires { ⌜ (length (now «psi_e») ≡ 6 * cells r) × (length (now tables) ≡ 6 * (r .nx + r .ny + r .nz)) ⌝ }
-    ensures { λ _. ⌜ now (poles .exit) ≡ polarized eps0 r (now (ids .entry)) (now (e .entry)) (now (poles .entry)) ⌝ }
-    ensures { λ _. ⌜ now (e .exit) ≡ correctedE eps0 r (now (media .entry)) (now (aux .entry)) (electricAfter eps0 r (now (h .entry)) (now (media .entry)) (now (tables .entry)) (deltaP r (polarized eps0 r (now (ids .entry)) (now (e .entry)) (now (poles .entry)))) (now («psi_e» .entry)) (now (e .entry))) ⌝ }
+    ensures { λ _. ⌜ now (poles .exit) ≡ polesStepped eps0 r (now (ids .entry)) (now (e .entry)) (now (poles .entry)) ⌝ }
+    ensures { λ _. ⌜ now (e .exit) ≡ correctedE eps0 r (now (media .entry)) (now (aux .entry)) (electricAfter eps0 r (now (h .entry)) (now (media .entry)) (now (tables .entry)) (deltaP r (polesStepped eps0 r (now (ids .entry)) (now (e .entry)) (now (poles .entry)))) (now («psi_e» .entry)) (now (e .entry))) ⌝ }
     ensures { λ _. ⌜ now («psi_e» .exit) ≡ psiAfter halfE r (now (h .entry)) (now (tables .entry)) (now («psi_e» .entry)) ⌝ }
     ensures { λ _. ⌜ now (aux .exit) ≡ lineEnd eps0 c0 r sample (now (aux .entry)) ⌝ }
 {
@@ -188,7 +188,7 @@ pub fn advance(
     aux: &mut [f64],
     ids: &[u32],
 ) -> Clock
-    requires { ⌜ Ready r (stores (now e) (now h) (now media) (now «psi_e») (now «psi_h») (now tables) (now poles) (now aux) (now ids)) ⌝ }
+    requires { ⌜ StepReady r (stores (now e) (now h) (now media) (now «psi_e») (now «psi_h») (now tables) (now poles) (now aux) (now ids)) ⌝ }
     requires { ⌜ r .clock .steps < lastStep ⌝ }
     ensures { λ t. ⌜ t ≡ ticked r .clock ⌝ }
     ensures { λ _. ⌜ stores (now (e .exit)) (now (h .exit)) (now (media .entry)) (now («psi_e» .exit)) (now («psi_h» .exit)) (now (tables .entry)) (now (poles .exit)) (now (aux .exit)) (now (ids .entry)) ≡ stepped eps0 mu0 c0 r sample (stores (now (e .entry)) (now (h .entry)) (now (media .entry)) (now («psi_e» .entry)) (now («psi_h» .entry)) (now (tables .entry)) (now (poles .entry)) (now (aux .entry)) (now (ids .entry))) ⌝ }

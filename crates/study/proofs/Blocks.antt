@@ -6,29 +6,33 @@ use mathlib.Core.Bool.{Bool, true, false, cond}
 use mathlib.Core.Option.{Option, none, some}
 use mathlib.Core.List.{List, [], _∷_}
 use lib.Dec.{T, ltb}
-use lib.ListN.{getD}
+use lib.ListN.{getD, replicate}
 use lib.Ieee.Fits.{and-l, and-r}
 use borrow.Author.Tests.{ltb-true, ne-eqb}
 use Rattle.codec.specs.Lists.{every}
-use Rattle.codec.specs.Bytes.{bytesFit, enc}
+use Rattle.codec.specs.Bytes.{bytesFit}
 use Rattle.codec.proofs.Lists.{every-append}
 use Rattle.codec.proofs.Row.{enc-fit}
+use Rattle.dispersion.specs.declared.DispersiveMaterial.{DispersiveMaterial}
 use Rattle.cells.specs.Cells.{joined}
 use Rattle.grid.specs.declared.Clock.{Clock}
 use Rattle.grid.specs.declared.Record.{Record}
 use Rattle.grid.specs.Canon.{canon}
 use Rattle.grid.specs.Edited.{withClock}
-use Rattle.grid.specs.Fault.{faultOf}
+use Rattle.grid.specs.Fault.{beyond, faultOf}
 use Rattle.grid.proofs.Canonical.{canon-twice}
-use Rattle.heads.specs.Numbers.{ghWidths, ghNums, mlWidths}
-use Rattle.block.specs.Held.{held, Held}
-use Rattle.block.specs.Block.{blockFine, blockRecord, entryNums, entryBytes, blockOf, clockPut}
+use Rattle.heads.specs.Numbers.{ghWidths, ghNums, mlWidths, mlLength, mlNums}
+use Rattle.heads.specs.Payloads.{headBytes, materialBytes}
+use Rattle.block.specs.Inner.Held.{held, Held}
+use Rattle.block.specs.Block.{blockFine, blockRecord, entryBytes, blockOf, clockPut}
 use Rattle.block.proofs.Turns.{block-long}
 use Rattle.block.proofs.Back.{fine-block, record-block}
 use Rattle.block.proofs.Clock.{clock-fine, clock-record}
-use Rattle.block.proofs.Decoded.{record-held}
+use Rattle.block.proofs.Decoded.{block-held}
+use Rattle.format.proofs.Same.{joined-fit}
 use Rattle.calls.specs.Blocks.{blockAfter, clockAfter}
-use Rattle.study.specs.World.{World, Study, ifFine, studyOf, Holding}
+use Rattle.study.specs.World.{World, Study, ifFine, studyOf}
+use Rattle.study.specs.Inner.Holding.{Holding}
 
 pub byte-at : (l : List ℕ) → T (bytesFit l) → (i : ℕ) → getD l i 0 < 256
 unfolding every
@@ -42,7 +46,7 @@ byte-at (x ∷ l) h (suc i) = byte-at l (and-r (ltb x 256) (every (λ b. ltb b 2
 
 -- what a block says, memory can hold
 pub under : (w : World) → blockFine (w .block) ≡ true → Holding (blockRecord (w .block)) (w .kept)
-under w fine = record { held = record-held (w .block) (block-long (w .block) fine) (byte-at (w .block) (w .bytes)); fits = w .fits }
+under w fine = record { held = block-held (w .block) (block-long (w .block) fine) (byte-at (w .block) (w .bytes)); fits = w .fits }
 
 -- the study of a block that is a record's, and of one that is none
 pub study-fine : (w : World) → blockFine (w .block) ≡ true → studyOf w ≡ some (record { rec = canon (blockRecord (w .block)); kept = w .kept })
@@ -82,13 +86,13 @@ unfolding blockAfter
 after-refused n r b = ap (λ (t : Bool). cond t (blockOf r) b) (ne-eqb (suc n) 0 (λ k. omega (arith, k)))
 
 -- a block's bytes are bytes
-joined-fit : (n : ℕ) (f : ℕ → List ℕ) → ((i : ℕ) → T (bytesFit (f i))) → T (bytesFit (joined n f))
-unfolding joined every
-joined-fit zero f h = tt
-joined-fit (suc n) f h = every-append (λ b. ltb b 256) (joined n f) (f n) (joined-fit n f h) (h n)
+entry-fit : (counted : Bool) (m : DispersiveMaterial) → T (bytesFit (cond counted (materialBytes m) (replicate mlLength 0)))
+unfolding every
+entry-fit true m = enc-fit mlWidths (mlNums m)
+entry-fit false m = tt
 
 pub block-fit : (r : Record) → T (bytesFit (blockOf r))
 unfolding blockOf entryBytes
 block-fit r =
-    every-append (λ b. ltb b 256) (enc ghWidths (ghNums r)) (joined 16 (entryBytes r)) (enc-fit ghWidths (ghNums r))
-    (joined-fit 16 (entryBytes r) (λ i. enc-fit mlWidths (entryNums (ltb i (r .«material_count»)) _)))
+    every-append (λ b. ltb b 256) (headBytes r) (joined 16 (entryBytes r)) (enc-fit ghWidths (ghNums r))
+    (joined-fit 16 (entryBytes r) (λ i. entry-fit (ltb i (r .«material_count»)) (getD (r .materials) i beyond)))

@@ -24,11 +24,11 @@ use Rattle.fields.specs.Fields.{Reset, resetCall, energyCall, planeCall}
 use Rattle.step.specs.Step.{stepCall}
 use Rattle.run.specs.Run.{runCall}
 use Rattle.block.specs.Block.{blockRecord}
-use Rattle.format.specs.Save.{saveLength as bytesLong, saveCall, lengthCall}
-use Rattle.calls.specs.Blocks.{sent, onBlock, clockOnBlock, told, readBlock, answered, answering, addBytesCall, axisBits, Named, named, naming, openOnBlock, rewindOnBlock}
+use Rattle.format.specs.Save.{saveLength, saveCall, lengthCall}
+use Rattle.calls.specs.Blocks.{sent, onBlock, clockOnBlock, readout, readBlock, answered, answering, addBytesCall, axisBits, Named, named, naming, openOnBlock, rewindOnBlock}
 use Rattle.study.specs.History.{opening, doing, saving, rewinding, Honest}
-use Rattle.study.specs.World.{World, Lent, lentIn, Opening, SaidOpening, Act, SaidAct, setMaterial, assignBox, assignHalfspace, addMaterial, buildDispersion, setPeriodic, wallsPeriodic, wallsConductor, wallsLossy, wallsCpml, slab, injector, boxRegion, step, run, resetFields, totalEnergy, planeReading, saveLength, Answer, nothing, numbers, floats, Room, front, puts}
-use Rattle.study.specs.Calls.{putMedia, putPlaced, putPoles, putLayer, putLossed, putAux, putReset, layerOf, lossedOf, placedOf, resetOf, boxOf, Form, form, engine, replyOf, MadeOn, Silently, Numbering, Reading}
+use Rattle.study.specs.World.{World, Lent, lentIn, Opening, SaidOpening, Act, SaidAct, setMaterial, assignBox, assignHalfspace, addMaterial, buildDispersion, setPeriodic, wallsPeriodic, wallsConductor, wallsLossy, wallsCpml, slab, injector, boxRegion, step, run, resetFields, totalEnergy, planeReading, askLength, Answer, nothing, numbers, floats, Room, front, puts}
+use Rattle.study.specs.Calls.{putMedia, putPlaced, putPoles, putLayer, putLossed, putAux, putReset, layerOf, lossedOf, placedOf, resetOf, boxRegionOf, Form, form, engine, replyOf, MadeOn, Silently, Numbering, Reading}
 use Rattle.study.proofs.Regular.{regular, reads, moves}
 use Rattle.study.proofs.Made.{on-block, clock-block, read-block}
 use Rattle.study.proofs.Made as made
@@ -76,7 +76,7 @@ module _ (room room' : List Float) (x : Float) (e : room' ≡ answered x room) w
 sent-of : {Y : Type 0} (f : Record → Outcome Y) (k : Y) {n : ℕ} {x x' b b' : List ℕ} {y : Y} → x ≡ b → x' ≡ b' → sent n b' y ≡ onBlock f b k → sent n x' y ≡ onBlock f x k
 sent-of f k p q e = rw (p, q) e
 
-told-of : {Y : Type 0} (f : Record → Outcome Y) (k : Y) {n : ℕ} {x b : List ℕ} {y : Y} → x ≡ b → told n y ≡ readBlock f b k → told n y ≡ readBlock f x k
+told-of : {Y : Type 0} (f : Record → Outcome Y) (k : Y) {n : ℕ} {x b : List ℕ} {y : Y} → x ≡ b → readout n y ≡ readBlock f b k → readout n y ≡ readBlock f x k
 told-of f k p e = rw p e
 
 lent-of : (w : World) (b : List ℕ) (t : Stores) → w .block ≡ b → w .kept ≡ t → lentIn w ≡ record { block = length b; stores = lengthsOf t }
@@ -148,7 +148,7 @@ module _ (b b' : List ℕ) (n : ℕ) where
       → Silently b b' (λ s. s .aux ≡ aux) (putAux aux') (doing (injector k0)) n
   «cichowiej_injector_z» k0 aux aux' e w v p q r s = silently (injector k0) tt refl (λ x. refl) n aux' w v (rw (p, q, r) e) s
 
-  pub «cichowiej_box_region» : (i0 i1 j0 j1 k0 k1 : ℕ) (aux aux' : List Float) → sent n b' aux' ≡ onBlock (λ r. regionCall r (boxOf i0 i1 j0 j1 k0 k1) aux) b aux
+  pub «cichowiej_box_region» : (i0 i1 j0 j1 k0 k1 : ℕ) (aux aux' : List Float) → sent n b' aux' ≡ onBlock (λ r. regionCall r (boxRegionOf i0 i1 j0 j1 k0 k1) aux) b aux
       → Silently b b' (λ s. s .aux ≡ aux) (putAux aux') (doing (boxRegion i0 i1 j0 j1 k0 k1)) n
   «cichowiej_box_region» i0 i1 j0 j1 k0 k1 aux aux' e w v p q r s = silently (boxRegion i0 i1 j0 j1 k0 k1) tt refl (λ x. refl) n aux' w v (rw (p, q, r) e) s
 
@@ -168,30 +168,30 @@ module _ (b b' : List ℕ) (n : ℕ) where
 
 -- ---- what leaves the block
 module _ (b : List ℕ) (n : ℕ) where
-  pub «cichowiej_total_energy» : (e h media room room' : List Float) → told n room' ≡ readBlock (λ r. answering (energyCall eps0 mu0 r e h media) room) b (answered zeroF room)
+  pub «cichowiej_total_energy» : (e h media room room' : List Float) → readout n room' ≡ readBlock (λ r. answering (energyCall eps0 mu0 r e h media) room) b (answered zeroF room)
       → Reading b b (λ s. (s .electric ≡ e) × (s .magnetic ≡ h) × (s .media ≡ media)) (doing (totalEnergy (length room))) n room room'
   «cichowiej_total_energy» e h media room room' k w v p q r s =
       read-block w v (totalEnergy (length room)) tt (floats room) (floats room') refl (λ x. answered x room) n room' (floats (take 1 room'))
       (λ x i. (s, float-front room room' x i, float-back room room' x i)) (told-of (λ r. answering (energyCall eps0 mu0 r (w .kept .electric) (w .kept .magnetic) (w .kept .media)) room) (answered zeroF room) p (rw (q .0, q .1, q .2) k)) (r ∙ sym p) (λ z. reads (length room) 0 z (w .kept) .0)
 
-  pub «cichowiej_plane_reading» : (at : ℕ) (e h room room' : List Float) → told n room' ≡ readBlock (λ r. answering (planeCall r at e h) room) b (answered zeroF room)
+  pub «cichowiej_plane_reading» : (at : ℕ) (e h room room' : List Float) → readout n room' ≡ readBlock (λ r. answering (planeCall r at e h) room) b (answered zeroF room)
       → Reading b b (λ s. (s .electric ≡ e) × (s .magnetic ≡ h)) (doing (planeReading at (length room))) n room room'
   «cichowiej_plane_reading» at e h room room' k w v p q r s =
       read-block w v (planeReading at (length room)) tt (floats room) (floats room') refl (λ x. answered x room) n room' (floats (take 1 room'))
       (λ x i. (s, float-front room room' x i, float-back room room' x i)) (told-of (λ r. answering (planeCall r at (w .kept .electric) (w .kept .magnetic)) room) (answered zeroF room) p (rw (q .0, q .1) k)) (r ∙ sym p) (λ z. reads (length room) at z (w .kept) .1)
 
-  pub «cichowiej_save_length» : (room room' : List ℕ) → told n room' ≡ readBlock (λ r. answering (lengthCall r) room) b (answered 0 room)
-      → Numbering b b (λ s. Unit {0}) (λ s. s) (doing (saveLength (length room))) n room room'
+  pub «cichowiej_save_length» : (room room' : List ℕ) → readout n room' ≡ readBlock (λ r. answering (lengthCall r) room) b (answered 0 room)
+      → Numbering b b (λ s. Unit {0}) (λ s. s) (doing (askLength (length room))) n room room'
   «cichowiej_save_length» room room' k w v p q r s =
-      read-block w v (saveLength (length room)) tt (numbers room) (numbers room') refl (λ x. answered x room) n room' (numbers (take 1 room'))
+      read-block w v (askLength (length room)) tt (numbers room) (numbers room') refl (λ x. answered x room) n room' (numbers (take 1 room'))
       (λ x i. (s, number-front room room' x i, number-back room room' x i)) (told-of (λ r. answering (lengthCall r) room) (answered 0 room) p k) (r ∙ sym p) (λ z. reads (length room) 0 z (w .kept) .2)
 
   -- the bytes saved are those at the room's front
-  pub «cichowiej_save» : (t : Stores) (room room' : List ℕ) → told n room' ≡ readBlock (λ r. saveCall r t room) b room
-      → MadeOn b b (λ s. s ≡ t) (λ s. s) (saving (length room)) (numbers room) (replyOf n (numbers []) (numbers (take (bytesLong (blockRecord b)) room'))) (numbers room')
+  pub «cichowiej_save» : (t : Stores) (room room' : List ℕ) → readout n room' ≡ readBlock (λ r. saveCall r t room) b room
+      → MadeOn b b (λ s. s ≡ t) (λ s. s) (saving (length room)) (numbers room) (replyOf n (numbers []) (numbers (take (saveLength (blockRecord b)) room'))) (numbers room')
   «cichowiej_save» t room room' k w v p q r s =
       let h = made.«cichowiej_save» w v room room' n (r ∙ sym p) s (told-of (λ r. saveCall r (w .kept) room) room p (rw q k)) in
-      subst (λ (x : List ℕ). Honest engine (record { call = saving (length room); handed = w; lent = numbers room; reply = replyOf n (numbers []) (numbers (take (bytesLong (blockRecord x)) room')); left = v; back = numbers room' })) p h
+      subst (λ (x : List ℕ). Honest engine (record { call = saving (length room); handed = w; lent = numbers room; reply = replyOf n (numbers []) (numbers (take (saveLength (blockRecord x)) room')); left = v; back = numbers room' })) p h
 
 -- ---- an opening and a rewind
 module _ (b b' : List ℕ) (n : ℕ) (t t' : Stores) where

@@ -19,20 +19,20 @@ use Rattle.cpml.specs.Memory.{advanced}
 use Rattle.cpml.specs.Absorber.{axisTables, layerTables}
 use Rattle.grid.specs.declared.Record.{Record}
 use Rattle.grid.specs.Fault.{isAbsent}
-use Rattle.grid.specs.Stores.{Stores, stores, zeros, cells}
+use Rattle.grid.specs.Stores.{Stores, stores, zeros, cells, lineLength}
 use Rattle.opening.specs.Opening.{inactive, openTables, openMedia}
-use Rattle.materials.specs.Materials.{three, mediaSet, idsSet}
+use Rattle.materials.specs.Materials.{mediumAt, mediaSet, idsSet}
 use Rattle.boundary.specs.declared.LossyAbsorber.{LossyAbsorber}
 use Rattle.boundary.specs.Lossy.{wallSigma, stronger, strongest, gradedSigma, lossySigma, noWall, lossyMedia}
-use Rattle.ade.specs.Polarization.{polarized as moved, polesOf, pOld, pBefore, pNew, dpAfter, poleNumber, polesAfter}
-use Rattle.fdtd.specs.declared.Axis.{Axis}
-use Rattle.fdtd.specs.Yee.{memoryB, memoryC, magnetic, electric}
-use Rattle.fdtd.specs.Halves.{Half, halfH, psiAfter, firstAfter, secondAfter, magneticAt, magneticAfter, halfE, electricAt, electricAfter}
-use Rattle.tfsf.specs.Line.{lineLength, exAt, hyAt, hyAfter, lineH, exMoved, exAfter, lineE}
-use Rattle.tfsf.specs.Corrections.{addedIn, faced}
-use Rattle.step.specs.Step.{lineMid, lineEnd, polarized, stepped}
-use Rattle.block.specs.Held.{held}
-use Rattle.format.specs.Savable.{StoresHeld}
+use Rattle.ade.specs.Polarization.{polarized, poleCountAt, pOld, pPrev, pNew, dpAfter, poleNumber, polesAfter}
+use Rattle.fdtd.specs.Yee.{Term, isAdvanced, memoryAfter, updatedH, updatedE}
+use Rattle.fdtd.specs.Halves.{Half, halfH, firstTerm, secondTerm, psiAfter, firstAfter, secondAfter, magneticAt, magneticAfter, halfE, electricAt, electricAfter}
+use Rattle.tfsf.specs.Line.{exAt, hyAt, hyAfter, lineH, exMoved, exAfter, lineE}
+use Rattle.tfsf.specs.declared.faces.Face.{Face}
+use Rattle.tfsf.specs.Corrections.{correctFace}
+use Rattle.step.specs.Step.{lineMid, lineEnd, polesStepped, stepped}
+use Rattle.block.specs.Inner.Held.{held}
+use Rattle.format.specs.InMemory.{StoresHeld}
 use Rattle.study.proofs.Corrected.{either, h-by, e-by}
 
 -- ---- lists all of whose elements pass
@@ -131,14 +131,14 @@ layer-fit nx ny nz active g t =
     (axis-fit (getD active 2 false) nz (6 * nx + 6 * ny) (6 * nz) g t)
 
 -- ---- cells set
-three-held : (eps mu sigma : Float) → Held eps → Held mu → Held sigma → (c : ℕ) → Held (three eps mu sigma c)
+three-held : (eps mu sigma : Float) → Held eps → Held mu → Held sigma → (c : ℕ) → Held (mediumAt eps mu sigma c)
 three-held eps mu sigma a b s c = pick (eqb c 0) eps (cond (eqb c 1) mu sigma) a (pick (eqb c 1) mu sigma b s)
 
 pub set-fit : (nx ny nz : ℕ) (b : IndexBox) (eps mu sigma : Float) (old : List Float) → Held eps → Held mu → Held sigma → All old
-    → All (mediaSet nx ny nz b (three eps mu sigma) old)
+    → All (mediaSet nx ny nz b (mediumAt eps mu sigma) old)
 unfolding mediaSet
 set-fit nx ny nz b eps mu sigma old p q s t =
-    all-components held 3 nx ny nz _ (λ c i j k. pick (inBox b i j k) (three eps mu sigma c) _ (three-held eps mu sigma p q s c) (number old t (c * (nx * ny * nz) + cellIndex nx ny i j k)))
+    all-components held 3 nx ny nz _ (λ c i j k. pick (inBox b i j k) (mediumAt eps mu sigma c) _ (three-held eps mu sigma p q s c) (number old t (c * (nx * ny * nz) + cellIndex nx ny i j k)))
 
 abbrev pub small : ℕ → Bool
 small n = ltb n 4294967296
@@ -167,12 +167,12 @@ lossy-fit r a media t =
     either All (noWall r (a .thickness)) media _ t (all-put held media (2 * (r .nx * r .ny * r .nz)) _ t (all-cellwise held (r .nx) (r .ny) (r .nz) _ (sigma-held r a)))
 
 -- ---- a step
-magnetic-held : (moves : Bool) (f curl h : Float) → Held h → Held (magnetic moves f curl h)
-unfolding magnetic
+magnetic-held : (moves : Bool) (f curl h : Float) → Held h → Held (updatedH moves f curl h)
+unfolding updatedH
 magnetic-held moves f curl h t = pick moves (h ⊖ f ⊗ curl) h (sub-fits binary64 _ _) t
 
-electric-held : (moves : Bool) (a b dt dp curl e : Float) → Held (electric moves a b dt dp curl e)
-unfolding electric
+electric-held : (moves : Bool) (a b dt dp curl e : Float) → Held (updatedE moves a b dt dp curl e)
+unfolding updatedE
 electric-held moves a b dt dp curl e = pick moves ((a ⊗ e ⊕ curl ⊖ dp ⊘ dt) ⊘ b) zeroF (div-fits binary64 _ _) zero-held
 
 magnetic-at : (mu0 : Float) (r : Record) (e media tables psi h : List Float) → All h → (a i j k : ℕ) → Held (magneticAt mu0 r e media tables psi h a i j k)
@@ -197,24 +197,20 @@ memory-held b c m d t =
     either (λ (x : Advanced). Held (x .memory)) (eq c zeroF) (record { memory = m; answer = zeroF }) (record { memory = b ⊗ m ⊕ c ⊗ d; answer = b ⊗ m ⊕ c ⊗ d }) t
     (add-fits binary64 _ _)
 
-module _ (A B C : Axis) (count : ℕ) (field tab mem : List Float) (t : All mem) (cell onB onC loB hiB loC hiC : ℕ) where
-  b-held : (moves : Bool) → Held (memoryB A B C count field tab mem cell onB onC loB hiB loC hiC moves)
-  unfolding memoryB
-  b-held moves = pick (moves && B .on) _ _ (memory-held _ _ _ _ (number mem t (A .mem + cell))) (number mem t (A .mem + cell))
-
-  c-held : (moves : Bool) → Held (memoryC A B C count field tab mem cell onB onC loB hiB loC hiC moves)
-  unfolding memoryC
-  c-held moves = pick (moves && C .on) _ _ (memory-held _ _ _ _ (number mem t (A .mem + count + cell))) (number mem t (A .mem + count + cell))
+memory-after : (moves : Bool) (t : Term) → Held (t .psi) → Held (memoryAfter moves t)
+unfolding memoryAfter
+memory-after moves t h = pick (isAdvanced moves t) _ _ (memory-held _ _ _ _ h) h
 
 psi-fit : (w : Half) (r : Record) (field tables mem : List Float) → All mem → All (psiAfter w r field tables mem)
 unfolding psiAfter firstAfter secondAfter
 psi-fit w r field tables mem t =
-    all-components held 6 (r .nx) (r .ny) (r .nz) _ (λ m i j k. pick (eqb (m % 2) 0) _ _ (b-held _ _ _ _ field tables mem t _ _ _ _ _ _ _ _) (c-held _ _ _ _ field tables mem t _ _ _ _ _ _ _ _))
+    all-components held 6 (r .nx) (r .ny) (r .nz) _ (λ m i j k. pick (eqb (m % 2) 0) _ _ (memory-after _ (firstTerm w r field tables mem (m / 2) i j k) (number mem t _)) (memory-after _ (secondTerm w r field tables mem (m / 2) i j k) (number mem t _)))
 
-faced-fit : (r : Record) (there : Bool) (c : ℕ) (b : IndexBox) (f : ℕ → ℕ → ℕ → Float) (s : List Float) → All s → All (faced there r c b f s)
-unfolding addedIn
-faced-fit r there c b f s t =
-    either All there _ s (all-components held 3 (r .nx) (r .ny) (r .nz) _ (λ d i j k. pick (eqb d c && inBox b i j k) _ _ (add-fits binary64 _ _) (number s t (d * cells r + cellIndex (r .nx) (r .ny) i j k)))) t
+face-fit : (r : Record) (f : Face) (added : ℕ → ℕ → ℕ → Float) (s : List Float) → All s → All (correctFace r f added s)
+unfolding correctFace
+face-fit r f added s t =
+    either All (f .there) _ s (all-components held 3 (r .nx) (r .ny) (r .nz) _ (λ c i j k.
+    pick (eqb c (f .component) && inBox (f .b) i j k) _ _ (add-fits binary64 _ _) (number s t (c * cells r + cellIndex (r .nx) (r .ny) i j k)))) t
 
 summed-held : (n : ℕ) (f : ℕ → Float) → Held (summed n f)
 unfolding summed
@@ -223,13 +219,13 @@ summed-held (suc n) f = add-fits binary64 _ _
 
 module _ (eps0 : Float) (r : Record) (ids : List ℕ) (e poles : List Float) (t : All poles) where
   new-held : (slot c m : ℕ) → Held (pNew eps0 r ids e poles slot c m)
-  unfolding pNew moved
+  unfolding pNew polarized
   new-held slot c m = add-fits binary64 _ _
 
   old-held : (slot c m : ℕ) → Held (pOld eps0 r ids e poles slot c m)
   old-held slot c m = number poles t ((3 * slot + c) * cells r + m)
 
-  before-held : (slot c m : ℕ) → Held (pBefore eps0 r ids e poles slot c m)
+  before-held : (slot c m : ℕ) → Held (pPrev eps0 r ids e poles slot c m)
   before-held slot c m = number poles t ((3 * r .«pole_slots» + (3 * slot + c)) * cells r + m)
 
   dp-held : (c m : ℕ) → Held (dpAfter eps0 r ids e poles c m)
@@ -241,11 +237,11 @@ module _ (eps0 : Float) (r : Record) (ids : List ℕ) (e poles : List Float) (t 
   pole-held n m =
       let half = 3 * r .«pole_slots» in
       let a = n - half in
-      pick (ltb n half) _ _ (pick (ltb (n / 3) (polesOf eps0 r ids e poles m)) _ _ (new-held (n / 3) (n % 3) m) (old-held (n / 3) (n % 3) m))
-      (pick (ltb n (2 * half)) _ _ (pick (ltb (a / 3) (polesOf eps0 r ids e poles m)) _ _ (old-held (a / 3) (a % 3) m) (before-held (a / 3) (a % 3) m)) (dp-held (n - 2 * half) m))
+      pick (ltb n half) _ _ (pick (ltb (n / 3) (poleCountAt eps0 r ids e poles m)) _ _ (new-held (n / 3) (n % 3) m) (old-held (n / 3) (n % 3) m))
+      (pick (ltb n (2 * half)) _ _ (pick (ltb (a / 3) (poleCountAt eps0 r ids e poles m)) _ _ (old-held (a / 3) (a % 3) m) (before-held (a / 3) (a % 3) m)) (dp-held (n - 2 * half) m))
 
-  pub poles-fit : All (polarized eps0 r ids e poles)
-  unfolding polarized polesAfter
+  pub poles-fit : All (polesStepped eps0 r ids e poles)
+  unfolding polesStepped polesAfter
   poles-fit = either All (eqb (r .«built_count») 0) poles _ t (all-joined held (6 * r .«pole_slots» + 3) _ (λ n. all-row held (cells r) _ (λ m. pole-held n m)))
 
 mid-fit : (mu0 : Float) (r : Record) (aux : List Float) → All aux → All (lineMid mu0 r aux)
@@ -276,8 +272,8 @@ unfolding stepped
 stepped-fit eps0 mu0 c0 r x s f =
     let line = mid-fit mu0 r (s .aux) (f .aux) in
     record {
-      electric = e-by All r (s .media) (lineMid mu0 r (s .aux)) (faced-fit r) eps0 _ (electric-fit eps0 r _ (s .media) (s .tables) _ (s .psiE) (s .electric));
-      magnetic = h-by All r (s .media) (lineMid mu0 r (s .aux)) (faced-fit r) mu0 _ (magnetic-fit mu0 r (s .electric) (s .media) (s .tables) (s .psiH) (s .magnetic) (f .magnetic));
+      electric = e-by All r (s .media) (lineMid mu0 r (s .aux)) (face-fit r) eps0 _ (electric-fit eps0 r _ (s .media) (s .tables) _ (s .psiE) (s .electric));
+      magnetic = h-by All r (s .media) (lineMid mu0 r (s .aux)) (face-fit r) mu0 _ (magnetic-fit mu0 r (s .electric) (s .media) (s .tables) (s .psiH) (s .magnetic) (f .magnetic));
       media = f .media;
       psiE = psi-fit halfE r _ (s .tables) (s .psiE) (f .psiE);
       psiH = psi-fit halfH r (s .electric) (s .tables) (s .psiH) (f .psiH);

@@ -8,7 +8,7 @@ use lib.ListN.{getD}
 use lib.Ieee.{Float, nan}
 use lib.Ieee.Fits.{and-i}
 use Rattle.codec.specs.Lists.{every}
-use Rattle.block.specs.Held.{held}
+use Rattle.block.specs.Inner.Held.{held}
 
 every-of : {A : Type 0} (p : A → Bool) (d : A) (l : List A) → ((i : ℕ) → T (p (getD l i d))) → T (every p l)
 unfolding every

@@ -8,20 +8,20 @@ use mathlib.Core.List.{List, _++_}
 use lib.Dec.{eqb}
 use lib.ListN.{length, length-append}
 use lib.Ieee.{Float}
-use Rattle.cells.specs.declared.IndexBox.{IndexBox}
 use Rattle.cells.specs.Cells.{row, components}
-use Rattle.cells.proofs.Blocks.{length-joined, length-row, length-cellwise}
+use Rattle.cells.specs.Reading.{length-joined, length-row, length-cellwise}
 use Rattle.grid.specs.declared.Record.{Record}
 use Rattle.grid.specs.declared.stores.Lengths.{Lengths}
-use Rattle.grid.specs.Stores.{Stores, cells, storeLengths, lengthsOf, faultWith}
+use Rattle.grid.specs.Stores.{Stores, cells, storeLengths, lengthsOf, faultWith, lineLength}
 use Rattle.grid.specs.Fault.{isAbsent}
 use Rattle.grid.proofs.Tests.{or-none}
 use Rattle.grid.proofs.Settled.{with-none}
 use Rattle.ade.specs.Polarization.{polesAfter}
 use Rattle.fdtd.specs.Halves.{Half, halfH, psiAfter, magneticAfter, halfE, electricAfter}
-use Rattle.tfsf.specs.Line.{lineLength, lineH, lineE}
-use Rattle.tfsf.specs.Corrections.{addedIn, faced}
-use Rattle.step.specs.Step.{stepFault, lineMid, correctedH, correctedE, lineEnd, polarized, stepped}
+use Rattle.tfsf.specs.Line.{lineH, lineE}
+use Rattle.tfsf.specs.declared.faces.Face.{Face}
+use Rattle.tfsf.specs.Corrections.{correctFace}
+use Rattle.step.specs.Step.{stepFault, lineMid, correctedH, correctedE, lineEnd, polesStepped, stepped}
 use Rattle.study.proofs.Corrected.{h-by, e-by}
 
 -- ---- lists by cells
@@ -38,19 +38,19 @@ either true x y n p q = p
 either false x y n p q = q
 
 -- ---- a step
-faced-long : (there : Bool) (r : Record) (c : ℕ) (b : IndexBox) (f : ℕ → ℕ → ℕ → Float) (s : List Float) → length s ≡ 3 * cells r → length (faced there r c b f s) ≡ 3 * cells r
-unfolding addedIn
-faced-long there r c b f s e = either there _ s (3 * cells r) (length-components 3 (r .nx) (r .ny) (r .nz) _) e
+face-long : (r : Record) (f : Face) (added : ℕ → ℕ → ℕ → Float) (s : List Float) → length s ≡ 3 * cells r → length (correctFace r f added s) ≡ 3 * cells r
+unfolding correctFace
+face-long r f added s e = either (f .there) _ s (3 * cells r) (length-components 3 (r .nx) (r .ny) (r .nz) _) e
 
 module _ (r : Record) (media line : List Float) where
   abbrev Long : List Float → Type 0
   Long l = length l ≡ 3 * cells r
 
   h-long : (mu0 : Float) (h : List Float) → Long h → Long (correctedH mu0 r media line h)
-  h-long = h-by Long r media line (λ there c b f s e. faced-long there r c b f s e)
+  h-long = h-by Long r media line (face-long r)
 
   e-long : (eps0 : Float) (e : List Float) → Long e → Long (correctedE eps0 r media line e)
-  e-long = e-by Long r media line (λ there c b f s e. faced-long there r c b f s e)
+  e-long = e-by Long r media line (face-long r)
 
 psi-long : (w : Half) (r : Record) (field tables mem : List Float) → length (psiAfter w r field tables mem) ≡ 6 * cells r
 unfolding psiAfter
@@ -65,8 +65,8 @@ unfolding electricAfter
 electric-long eps0 r h media tables dp psi e = length-components 3 (r .nx) (r .ny) (r .nz) _
 
 polarized-long : (eps0 : Float) (r : Record) (ids : List ℕ) (e poles : List Float) → length poles ≡ (6 * r .«pole_slots» + 3) * cells r
-    → length (polarized eps0 r ids e poles) ≡ (6 * r .«pole_slots» + 3) * cells r
-unfolding polarized polesAfter
+    → length (polesStepped eps0 r ids e poles) ≡ (6 * r .«pole_slots» + 3) * cells r
+unfolding polesStepped polesAfter
 polarized-long eps0 r ids e poles h =
     either (eqb (r .«built_count») 0) poles _ _ h (length-joined (6 * r .«pole_slots» + 3) (cells r) _ (λ n l. length-row (cells r) _))
 

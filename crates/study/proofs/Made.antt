@@ -11,7 +11,7 @@ use lib.Seq.{take-append-seam}
 use borrow.Author.Tests.{eq-eqb}
 use Rattle.codec.specs.Lists.{put}
 use Rattle.codec.specs.Bytes.{bytesFit}
-use Rattle.study.specs.History.{Outcome as Fate, given, Reply, opening, doing, saving, rewinding, does, answerIn, Fits, Gives, Honest}
+use Rattle.study.specs.History.{Fate, given, Reply, opening, doing, saving, rewinding, does, answerIn, Fits, Gives, Honest}
 use Rattle.grid.specs.declared.Record.{Record}
 use Rattle.grid.specs.Canon.{canon}
 use Rattle.grid.specs.Edited.{withClock}
@@ -21,11 +21,11 @@ use Rattle.grid.proofs.Tests.{or-none}
 use Rattle.opening.specs.Opening.{openStores}
 use Rattle.opening.proofs.Opened.{open-canon}
 use Rattle.format.proofs.Round.{rewind-takes}
-use Rattle.block.specs.Held.{Held}
+use Rattle.block.specs.Inner.Held.{Held}
 use Rattle.block.specs.Block.{blockLength, blockFine, blockRecord, blockOf}
 use Rattle.format.specs.Save.{saveLength, saveBytes, saveFault, saveCall}
 use Rattle.format.specs.Rewind.{readRecord, readStores, rewindFault}
-use Rattle.calls.specs.Blocks.{Sent, sent, blockAfter, passed, onBlock, clockAfter, moved, clockOnBlock, Told, told, readBlock, lentBlock, openOnBlock, rewindOnBlock}
+use Rattle.calls.specs.Blocks.{Sent, sent, blockAfter, passed, onBlock, clockAfter, clockPassed, clockOnBlock, Readout, readout, readBlock, lentBlock, openOnBlock, rewindOnBlock}
 use Rattle.study.specs.World.{World, Study, studyOf, lentIn, Opening, SaidOpening, Act, SaidAct, Asked, Answer, nothing, numbers, Room, puts}
 use Rattle.study.specs.Calls.{Form, form, settled, lifted, actsOn, openedOf, savesIn, engine, weightOf, replyOf}
 use Rattle.study.proofs.Blocks.{under, study-fine, study-none, study-put, study-clock, after-accepted, after-refused, clock-accepted, clock-refused}
@@ -150,7 +150,7 @@ module _ (w v : World) (c : Act) (said : SaidAct c) (lent back : Room) (lends : 
   clock-block e alone = go (blockFine (w .block)) refl e
     where
       go : (t : Bool) → blockFine (w .block) ≡ t
-          → sent n (v .block) y ≡ cond t (moved (shown r) (w .block)) (sent badStudy (w .block) (g (form c .idle (w .kept)))) → Then
+          → sent n (v .block) y ≡ cond t (clockPassed (shown r) (w .block)) (sent badStudy (w .block) (g (form c .idle (w .kept)))) → Then
       go true fine q =
           came fine (ap (λ (s : Sent Y). s .refusal) q) (ap (λ (s : Sent Y). s .rest) q) (clock-by alone fine (ap (λ (s : Sent Y). s .block) q))
       go false fine q = came-not fine (ap (λ (s : Sent Y). s .refusal) q) (ap (λ (s : Sent Y). s .block) q) (ap (λ (s : Sent Y). s .rest) q)
@@ -165,14 +165,14 @@ module _ (w v : World) (c : Act) (said : SaidAct c) (lent back : Room) (lends : 
           ∙ ap {B = Option Study} (λ (q : Record). some (record { rec = canon q; kept = v .kept })) (ap blockRecord b ∙ sym (same r)))
       go (suc m) x i = rw i b
 
-  pub read-block : told n y ≡ readBlock shown (w .block) (g (form c .idle (w .kept))) → v .block ≡ w .block → ((q : Record) → regular c .next q (w .kept) ≡ q) → Then
+  pub read-block : readout n y ≡ readBlock shown (w .block) (g (form c .idle (w .kept))) → v .block ≡ w .block → ((q : Record) → regular c .next q (w .kept) ≡ q) → Then
   unfolding readBlock
   read-block e b same = go (blockFine (w .block)) refl e
     where
       go : (t : Bool) → blockFine (w .block) ≡ t
-          → told n y ≡ cond t (told (o .refusal) (g (o .rest))) (told badStudy (g (form c .idle (w .kept)))) → Then
-      go true fine q = came fine (ap (λ (s : Told Y). s .refusal) q) (ap (λ (s : Told Y). s .rest) q) (read-by b same fine)
-      go false fine q = came-not fine (ap (λ (s : Told Y). s .refusal) q) b (ap (λ (s : Told Y). s .rest) q)
+          → readout n y ≡ cond t (readout (o .refusal) (g (o .rest))) (readout badStudy (g (form c .idle (w .kept)))) → Then
+      go true fine q = came fine (ap (λ (s : Readout Y). s .refusal) q) (ap (λ (s : Readout Y). s .rest) q) (read-by b same fine)
+      go false fine q = came-not fine (ap (λ (s : Readout Y). s .refusal) q) b (ap (λ (s : Readout Y). s .rest) q)
 
 -- ---- an opening and a rewind: the record r and the stores s, or a refusal that leaves all
 record Arrived (r : Record) : Type 0 where
@@ -278,7 +278,7 @@ module _ (w v : World) (room room' : List ℕ) (n : ℕ) (b-is : v .block ≡ w 
       )
   save-by (suc f) z fine n-is r-is = rw n-is ((refl, (b-is, s-is)), ap {B = Room} numbers (r-is ∙ sym (put-none room)))
 
-  pub «cichowiej_save» : told n room' ≡ readBlock (λ r. saveCall r (w .kept) room) (w .block) room
+  pub «cichowiej_save» : readout n room' ≡ readBlock (λ r. saveCall r (w .kept) room) (w .block) room
       → Honest engine (record { call = saving (length room); handed = w; lent = numbers room; reply = reply n; left = v; back = numbers room' })
   unfolding readBlock saveCall
   «cichowiej_save» e = go (blockFine (w .block)) refl e
@@ -287,11 +287,11 @@ module _ (w v : World) (room room' : List ℕ) (n : ℕ) (b-is : v .block ≡ w 
       fits = record { said = tt; lends = refl; measured = tt }
 
       go : (t : Bool) → blockFine (w .block) ≡ t
-          → told n room' ≡ cond t (told (saveCall of (w .kept) room .refusal) (saveCall of (w .kept) room .rest)) (told badStudy room)
+          → readout n room' ≡ cond t (readout (saveCall of (w .kept) room .refusal) (saveCall of (w .kept) room .rest)) (readout badStudy room)
           → Honest engine (record { call = saving (length room); handed = w; lent = numbers room; reply = reply n; left = v; back = numbers room' })
       go true fine q =
           let f = saveFault of (lengthsOf (w .kept)) (length room) in
-          let k = save-by f refl fine (ap (λ (x : Told (List ℕ)). x .refusal) q) (ap (λ (x : Told (List ℕ)). x .rest) q) in
+          let k = save-by f refl fine (ap (λ (x : Readout (List ℕ)). x .refusal) q) (ap (λ (x : Readout (List ℕ)). x .rest) q) in
           record {
             fits = fits;
             gives = subst (λ (x : Option Study). Gives engine (savesIn (length room) x) w (reply n) v) (sym (study-fine w fine))
@@ -300,8 +300,8 @@ module _ (w v : World) (room room' : List ℕ) (n : ℕ) (b-is : v .block ≡ w 
             told = k .1;
           }
       go false fine q =
-          let n-is : n ≡ badStudy = ap (λ (x : Told (List ℕ)). x .refusal) q in
-          let r-is : room' ≡ room = ap (λ (x : Told (List ℕ)). x .rest) q in
+          let n-is : n ≡ badStudy = ap (λ (x : Readout (List ℕ)). x .refusal) q in
+          let r-is : room' ≡ room = ap (λ (x : Readout (List ℕ)). x .rest) q in
           record {
             fits = fits;
             gives = subst (λ (x : Option Study). Gives engine (savesIn (length room) x) w (reply n) v) (sym (study-none w fine)) (rw n-is (refl, (b-is, s-is)));

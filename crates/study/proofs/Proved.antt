@@ -6,19 +6,20 @@ use mathlib.Core.Bool.{Bool, true, false}
 use mathlib.Core.Option.{Option, none, some}
 use mathlib.Core.List.{List, []}
 use lib.ListN.{length}
-use Rattle.study.specs.History.{turned, given, Laws, Clock}
+use Rattle.study.specs.History.{turned, given}
+use Rattle.study.specs.Inner.Laws.{Laws, Ticking}
 use Rattle.study.proofs.Standing.{no-outcome, claim, run-b, timed, resumes}
 use Rattle.grid.specs.declared.Record.{Record}
 use Rattle.grid.specs.Canon.{canon}
 use Rattle.grid.specs.Fault.{badStudy}
 use Rattle.grid.specs.Stores.{Stores, lengthsOf, Outcome, settle, faultWith}
 use Rattle.opening.specs.Opening.{openStores}
-use Rattle.block.specs.Held.{Held}
+use Rattle.block.specs.Inner.Held.{Held}
 use Rattle.block.specs.Block.{blockLength, blockFine, blockRecord}
 use Rattle.block.proofs.Turns.{block-long}
 use Rattle.format.specs.Save.{saveBytes, saveFault}
 use Rattle.format.specs.Rewind.{readRecord, readStores, rewindFault}
-use Rattle.format.specs.Savable.{StoresHeld}
+use Rattle.format.specs.InMemory.{StoresHeld}
 use Rattle.calls.specs.Blocks.{lentBlock}
 use Rattle.study.specs.World.{World, Study, studyOf, ifFine, Lent, lentIn, Act, Answer, nothing, numbers, writtenIn}
 use Rattle.study.specs.Calls.{form, settled, lifted, actsOn, openedOf, savesIn, loadsFrom, weightOf, engine}
@@ -127,7 +128,7 @@ laws = record {
 }
 
 -- ---- the clock
-pub clock : Clock engine
+pub clock : Ticking engine
 clock = record {
   tick = λ t. t .rec .clock .steps;
   weight = weightOf;

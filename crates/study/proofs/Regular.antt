@@ -17,34 +17,34 @@ use Rattle.grid.specs.declared.Region.{Region}
 use Rattle.grid.specs.declared.Record.{Record}
 use Rattle.grid.specs.declared.stores.Lengths.{Lengths}
 use Rattle.grid.specs.Edited.{withWalls, withBuilt, withRegion, withClock}
-use Rattle.grid.specs.Fault.{first, cornersFit, layerFits as layerFitted, faultOf}
+use Rattle.grid.specs.Fault.{first, cornersFit, layerFits, faultOf}
 use Rattle.grid.specs.Canon.{canonMaterial, canonRegion, canon}
 use Rattle.grid.specs.Stores.{Stores, Outcome, outcome, settle, zeros, orElse, storeLengths, sameLengths, lengthsOf, faultLent, faultWith}
 use Rattle.grid.proofs.Canonical.{canon-fault}
 use Rattle.grid.proofs.Tests.{or-none, first-none}
 use Rattle.grid.proofs.Settled.{lent-none}
 use Rattle.materials.proofs.Building.{add-none}
-use Rattle.block.specs.Held.{held, Held}
+use Rattle.block.specs.Inner.Held.{held, Held}
 use Rattle.codec.specs.Lists.{every}
 use lib.Ieee.Fits.{and-l, and-r}
-use Rattle.opening.specs.Layer.{layer, layerLong, layerFits, clearedLayer}
-use Rattle.materials.specs.Materials.{three, mediaFault, mediaSet, setMaterialCall, Placed, assignFault, idsSet, assigned, assignBoxCall, halfspace, builtOf, polesFault, buildCall, tooManyPoles, full, addFault, added, noSuchMaterial, placed}
-use Rattle.heads.specs.Numbers.{mlWidths}
+use Rattle.opening.specs.Layer.{layer, layerLong, layerLent, clearedLayer}
+use Rattle.materials.specs.Materials.{mediumAt, mediaFault, mediaSet, setMaterialCall, Placed, assignFault, idsSet, assigned, assignBoxCall, halfspace, builtOf, polesFault, buildCall, tooManyPoles, full, addFault, added, noSuchMaterial, placed}
+use Rattle.heads.specs.Payloads.{entryOf}
 use Rattle.block.proofs.Decoded.{read-held}
-use Rattle.codec.specs.Bytes.{nums}
-use Rattle.format.specs.Save.{saveLength as bytesLong, lengthCall}
+use Rattle.format.specs.Save.{saveLength, lengthCall}
 use Rattle.calls.specs.Blocks.{materialFault, materialOf, addBytesFault, addBytesCall}
 use Rattle.boundary.specs.declared.LossyAbsorber.{LossyAbsorber}
 use Rattle.boundary.specs.Lossy.{lossySigma, noWall, lossyMedia}
-use Rattle.boundary.specs.Walls.{three as flags, setPeriodicCall, plainFault, setPlainCall, lossyFault, badOrder, setLossyCall}
+use Rattle.boundary.specs.Walls.{allAxes, setPeriodicCall, plainFault, setPlainCall, lossyFault, badOrder, setLossyCall}
 use Rattle.cpml.specs.Absorber.{activeAxes, periodicLeft, layerTables, cpmlFault, absorbed, noAxis, setCpmlCall}
 use Rattle.tfsf.specs.Wave.{slabZ, injectorZ, badRegion, regionFault, restarted, regionCall}
 use Rattle.fields.specs.Fields.{reset, resetLong, cleared, resetCall, energyOf, energyFault, energyCall, planeOf, noSuchPlane, planeFault, planeCall}
 use Rattle.step.specs.Step.{staleMaterial, spentClock, lastStep, freshIds, stepFault, stepped, ticked, stepCall}
 use Rattle.step.proofs.Judged.{ready}
 use Rattle.run.specs.Run.{ran, runCall}
-use Rattle.study.specs.World.{Holding, Floats, SaidAct, Act, setMaterial, assignBox, assignHalfspace, addMaterial, buildDispersion, setPeriodic, wallsPeriodic, wallsConductor, wallsLossy, wallsCpml, slab, injector, boxRegion, step, run, resetFields, totalEnergy, planeReading, saveLength}
-use Rattle.study.specs.Calls.{Form, form, storing, putAux, putPlaced, putLayer, layerOf, lossedOf, placedOf, resetOf, boxOf, weightOf}
+use Rattle.study.specs.World.{Floats, SaidAct, Act, setMaterial, assignBox, assignHalfspace, addMaterial, buildDispersion, setPeriodic, wallsPeriodic, wallsConductor, wallsLossy, wallsCpml, slab, injector, boxRegion, step, run, resetFields, totalEnergy, planeReading, askLength}
+use Rattle.study.specs.Inner.Holding.{Holding}
+use Rattle.study.specs.Calls.{Form, form, storing, putAux, putPlaced, putLayer, layerOf, lossedOf, placedOf, resetOf, boxRegionOf, weightOf}
 use Rattle.study.proofs.Kept.{material-kept, built-kept, added-kept, lent-kept}
 use Rattle.study.proofs.Fits.{zeros-fit, layer-fit, set-fit, lossy-fit, stepped-fit}
 use Rattle.study.proofs.Remains.{held-walls, held-built, held-region, held-tick, held-added, fit-media, fit-poles, fit-aux, fit-layer, fit-cleared, fit-reset, fit-assigned, ran-holds}
@@ -76,7 +76,7 @@ nought n = omega arith
 
 -- ---- materials
 set-asked : (nx ny nz : ℕ) (b : IndexBox) (eps mu sigma : Float) (old : List Float) → Floats (eps ∷ mu ∷ sigma ∷ []) → Floats old
-    → Floats (mediaSet nx ny nz b (three eps mu sigma) old)
+    → Floats (mediaSet nx ny nz b (mediumAt eps mu sigma) old)
 unfolding every
 set-asked nx ny nz b eps mu sigma old a t =
     let p = and-l (held eps) _ a in
@@ -88,7 +88,7 @@ unfolding setMaterialCall mediaFault storeLengths canon
 set-material b eps mu sigma = record {
   fault = λ r s. mediaFault r (length (s .media));
   next = λ r s. r;
-  rest = λ r s. mediaSet (r .nx) (r .ny) (r .nz) b (three eps mu sigma) (s .media);
+  rest = λ r s. mediaSet (r .nx) (r .ny) (r .nz) b (mediumAt eps mu sigma) (s .media);
   is = λ r s. refl;
   idles = λ s. refl;
   silent = λ s. refl;
@@ -118,7 +118,7 @@ left-three p a = refl
 placed-kept : (r : Record) (id : ℕ) (b : IndexBox) (p : Placed) → id < r .«material_count» → assigned (canon r) b id p ≡ assigned r b id p
 unfolding assigned canon canonMaterial
 placed-kept r id b p low =
-    ap (λ (m : DispersiveMaterial). placed (mediaSet (r .nx) (r .ny) (r .nz) b (three (m .«eps_inf») (m .«mu_r») (m .sigma)) (p .media)) (idsSet (r .nx) (r .ny) (r .nz) b id (p .ids)))
+    ap (λ (m : DispersiveMaterial). placed (mediaSet (r .nx) (r .ny) (r .nz) b (mediumAt (m .«eps_inf») (m .«mu_r») (m .sigma)) (p .media)) (idsSet (r .nx) (r .ny) (r .nz) b id (p .ids)))
     (material-kept r id low)
 
 -- the box may hang on the sizes
@@ -164,7 +164,7 @@ add m n = record {
   next-canon = λ r s h. added-kept r (materialOf m);
   rest-canon = λ r s h. refl;
   counts = λ r s. nought _;
-  holds = λ said r s h e. record { held = held-added r (materialOf m) (h .held) (read-held (nums mlWidths m)) (add-none r (materialOf m .«pole_count») (adding m r e)); fits = h .fits };
+  holds = λ said r s h e. record { held = held-added r (materialOf m) (h .held) (read-held (entryOf m)) (add-none r (materialOf m .«pole_count») (adding m r e)); fits = h .fits };
   sound = λ r s h e. added-whole r (materialOf m) (h .sixteen) (adding m r e);
 }
 
@@ -186,12 +186,12 @@ build = record {
 }
 
 -- ---- walls
-no-layer : layerFitted (flags false) false ≡ true
-unfolding layerFitted
+no-layer : layerFits (allAxes false) false ≡ true
+unfolding layerFits
 no-layer = refl
 
-layer-any : (a : List Bool) → layerFitted a true ≡ true
-unfolding layerFitted
+layer-any : (a : List Bool) → layerFits a true ≡ true
+unfolding layerFits
 layer-any a = refl
 
 periodic : (x y z : Bool) → Regular (form (setPeriodic x y z)) 0 (SaidAct (setPeriodic x y z))
@@ -215,24 +215,24 @@ plain-walls : (on : Bool) → Regular (storing (λ r s. setPlainCall on r (layer
 unfolding setPlainCall plainFault storeLengths canon
 plain-walls on = record {
   fault = λ r s. plainFault r (layerOf s);
-  next = λ r s. withWalls r (flags on) (flags false) false;
+  next = λ r s. withWalls r (allAxes on) (allAxes false) false;
   rest = λ r s. clearedLayer (r .nx) (r .ny) (r .nz) (layerOf s);
   is = λ r s. refl;
   idles = λ s. refl;
   silent = λ s. refl;
-  fault-canon = λ r s. lent-kept r (layerFits (layerOf s) (storeLengths r));
+  fault-canon = λ r s. lent-kept r (layerLent (layerOf s) (storeLengths r));
   next-canon = λ r s h. refl;
   rest-canon = λ r s h. refl;
   counts = λ r s. nought _;
-  holds = λ said r s h e. record { held = held-walls r (h .held) (flags on) (flags false) false refl refl; fits = fit-cleared s (h .fits) (r .nx) (r .ny) (r .nz) (layerOf s) };
-  sound = λ r s h e. walls-whole r (flags on) (flags false) false (lent-fine r (layerFits (layerOf s) (storeLengths r)) e) no-layer;
+  holds = λ said r s h e. record { held = held-walls r (h .held) (allAxes on) (allAxes false) false refl refl; fits = fit-cleared s (h .fits) (r .nx) (r .ny) (r .nz) (layerOf s) };
+  sound = λ r s h e. walls-whole r (allAxes on) (allAxes false) false (lent-fine r (layerLent (layerOf s) (storeLengths r)) e) no-layer;
 }
 
 lossy : (a : LossyAbsorber) → Regular (form (wallsLossy a)) 0 (SaidAct (wallsLossy a))
 unfolding setLossyCall lossyFault lossyMedia noWall lossySigma storeLengths canon
 lossy a = record {
   fault = λ r s. lossyFault r (a .order) (length (s .psiE)) (length (s .psiH)) (length (s .tables)) (length (s .media));
-  next = λ r s. withWalls r (r .periodic) (flags false) false;
+  next = λ r s. withWalls r (r .periodic) (allAxes false) false;
   rest = λ r s. record { walls = clearedLayer (r .nx) (r .ny) (r .nz) (layerOf s); media = lossyMedia r a (s .media) };
   is = λ r s. refl;
   idles = λ s. refl;
@@ -242,10 +242,10 @@ lossy a = record {
   next-canon = λ r s h. refl;
   rest-canon = λ r s h. refl;
   counts = λ r s. nought _;
-  holds = λ said r s h e. record { held = held-walls r (h .held) (r .periodic) (flags false) false (h .held .walls .0) refl; fits = fit-media _ (fit-cleared s (h .fits) (r .nx) (r .ny) (r .nz) (layerOf s)) _ (lossy-fit r a (s .media) (h .fits .media)) };
+  holds = λ said r s h e. record { held = held-walls r (h .held) (r .periodic) (allAxes false) false (h .held .walls .0) refl; fits = fit-media _ (fit-cleared s (h .fits) (r .nx) (r .ny) (r .nz) (layerOf s)) _ (lossy-fit r a (s .media) (h .fits .media)) };
   sound = λ r s h e.
       let lent = layerLong (length (s .psiE)) (length (s .psiH)) (length (s .tables)) (storeLengths r) && eqb (length (s .media)) (storeLengths r .media) in
-      walls-whole r (r .periodic) (flags false) false (lent-fine r lent (or-none (faultLent r lent) _ e .0)) no-layer;
+      walls-whole r (r .periodic) (allAxes false) false (lent-fine r lent (or-none (faultLent r lent) _ e .0)) no-layer;
 }
 
 cpml : (x y z : Bool) (t : ℕ) (g : List Float) (n : ℕ) → Regular (form (wallsCpml x y z t g n)) 0 (SaidAct (wallsCpml x y z t g n))
@@ -310,7 +310,7 @@ injector-same : (k0 : ℕ) (r : Record) → injectorZ (canon r) k0 ≡ injectorZ
 unfolding canon
 injector-same k0 r = refl
 
-box-there : (i0 i1 j0 j1 k0 k1 : ℕ) → canonRegion (boxOf i0 i1 j0 j1 k0 k1) ≡ boxOf i0 i1 j0 j1 k0 k1
+box-there : (i0 i1 j0 j1 k0 k1 : ℕ) → canonRegion (boxRegionOf i0 i1 j0 j1 k0 k1) ≡ boxRegionOf i0 i1 j0 j1 k0 k1
 unfolding canonRegion
 box-there i0 i1 j0 j1 k0 k1 = refl
 
@@ -444,12 +444,12 @@ plane k n = record {
 }
 
 -- ---- the length of a save
-asked-length : (n : ℕ) → Regular (form (saveLength n)) 0 (SaidAct (saveLength n))
-unfolding lengthCall bytesLong canon
+asked-length : (n : ℕ) → Regular (form (askLength n)) 0 (SaidAct (askLength n))
+unfolding lengthCall saveLength canon
 asked-length n = record {
   fault = λ r s. faultOf r;
   next = λ r s. r;
-  rest = λ r s. bytesLong r;
+  rest = λ r s. saveLength r;
   is = λ r s. refl;
   idles = λ s. refl;
   silent = λ s. refl;
@@ -474,17 +474,17 @@ regular (wallsLossy a) = lossy a
 regular (wallsCpml x y z t g n) = cpml x y z t g n
 regular (slab k0 k1) = wave (λ r. slabZ r k0 k1) (slab-same k0 k1) (slab-there k0 k1)
 regular (injector k0) = wave (λ r. injectorZ r k0) (injector-same k0) (injector-there k0)
-regular (boxRegion i0 i1 j0 j1 k0 k1) = wave (λ r. boxOf i0 i1 j0 j1 k0 k1) (λ r. refl) (λ r. box-there i0 i1 j0 j1 k0 k1)
+regular (boxRegion i0 i1 j0 j1 k0 k1) = wave (λ r. boxRegionOf i0 i1 j0 j1 k0 k1) (λ r. refl) (λ r. box-there i0 i1 j0 j1 k0 k1)
 regular (step x) = one-step x
 regular (run xs) = many-steps xs
 regular resetFields = clearing
 regular (totalEnergy n) = energy n
 regular (planeReading k n) = plane k n
-regular (saveLength n) = asked-length n
+regular (askLength n) = asked-length n
 
 -- a reading leaves the record
 pub reads : (n k : ℕ) (r : Record) (s : Stores)
-    → (regular (totalEnergy n) .next r s ≡ r) × (regular (planeReading k n) .next r s ≡ r) × (regular (saveLength n) .next r s ≡ r)
+    → (regular (totalEnergy n) .next r s ≡ r) × (regular (planeReading k n) .next r s ≡ r) × (regular (askLength n) .next r s ≡ r)
 unfolding regular energy plane asked-length
 reads n k r s = (refl, refl, refl)
 

@@ -28,14 +28,14 @@ use Rattle.grid.specs.Stores.{Stores, cells, storeLengths}
 use Rattle.cells.specs.declared.IndexBox.{IndexBox}
 use Rattle.opening.specs.Opening.{openRecord, openStores}
 use Rattle.opening.specs.Layer.{Layer, clearedLayer}
-use Rattle.materials.specs.Materials.{Placed, placed, three, mediaSet, idsSet, materialAt, assigned, added}
+use Rattle.materials.specs.Materials.{Placed, placed, mediumAt, mediaSet, idsSet, materialAt, assigned, added}
 use Rattle.fields.specs.Fields.{reset, cleared}
 use Rattle.tfsf.specs.Wave.{restarted}
 use Rattle.step.specs.Step.{lastStep, stepped, ticked}
 use Rattle.run.specs.Run.{ran}
-use Rattle.block.specs.Held.{held, poleHeld, MaterialHeld, Held}
-use Rattle.format.specs.Savable.{StoresHeld}
-use Rattle.study.specs.World.{Holding}
+use Rattle.block.specs.Inner.Held.{held, poleHeld, MaterialHeld, Held}
+use Rattle.format.specs.InMemory.{StoresHeld}
+use Rattle.study.specs.Inner.Holding.{Holding}
 use Rattle.study.specs.Calls.{putMedia, putPlaced, putPoles, putLayer, putAux, putReset, placedOf}
 use Rattle.study.proofs.Fits.{All, small, all-replicate, zeros-fit, media-fit, tables-fit, set-fit, ids-fit, stepped-fit}
 
@@ -246,7 +246,7 @@ unfolding assigned
 fit-assigned r s b id h f low =
     let m = h .each id low in
     let d = materialAt r id in
-    fit-placed s f (placed (mediaSet (r .nx) (r .ny) (r .nz) b (three (d .«eps_inf») (d .«mu_r») (d .sigma)) (s .media)) (idsSet (r .nx) (r .ny) (r .nz) b id (s .ids)))
+    fit-placed s f (placed (mediaSet (r .nx) (r .ny) (r .nz) b (mediumAt (d .«eps_inf») (d .«mu_r») (d .sigma)) (s .media)) (idsSet (r .nx) (r .ny) (r .nz) b id (s .ids)))
     (set-fit (r .nx) (r .ny) (r .nz) b (d .«eps_inf») (d .«mu_r») (d .sigma) (s .media) (m .eps) (m .mu) (m .loss) (f .media))
     (ids-fit (r .nx) (r .ny) (r .nz) b id (s .ids) (lt→ltb id 4294967296 (omega (arith, low))) (f .ids))
 

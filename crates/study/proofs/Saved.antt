@@ -11,10 +11,11 @@ use Rattle.grid.specs.Stores.{Stores, storeLengths, lengthsOf, sameLengths, orE
 use Rattle.grid.proofs.Canonical.{canon-fault}
 use Rattle.grid.proofs.Settled.{with-none}
 use Rattle.grid.proofs.Tests.{or-none}
-use Rattle.block.specs.Held.{Held}
+use Rattle.block.specs.Inner.Held.{Held}
 use Rattle.format.specs.Save.{saveLength, saveBytes, saveFault, noRoom}
 use Rattle.format.specs.Rewind.{readRecord, readStores, rewindFault}
-use Rattle.format.specs.Savable.{StoresHeld, Savable}
+use Rattle.format.specs.InMemory.{StoresHeld}
+use Rattle.format.specs.Inner.Savable.{Savable}
 use Rattle.format.proofs.Written.{save-long}
 use Rattle.format.proofs.Back.{save-accepted, record-again, stores-again}
 use Rattle.format.proofs.Same.{canon-saves}

@@ -8,13 +8,14 @@ use mathlib.Core.Bool.{Bool, true, false, _&&_}
 use native.Mathlib.Omega.{arith}
 use lib.Dec.{eqb}
 use borrow.Author.Tests.{eqb-true, eq-eqb}
-use Rattle.study.specs.History.{Bytes, sameBytes, opening, doing, saving, rewinding, Outcome, turned, given, Reply, refused, accepted, Replay, stuck, reached, Machine, Asked, does, grow, extend, replay, Made, Gives, Measured, Fits, Honest, leaves, holds, studyIn, Got, Handed, wroteBy, Wrote, Proper, RunA, begins, makes, RunB, idle, follows, pick, latest, note, past, standing, calls, replies, Laws, Alike, Claim, Returns, Repeats, Clock, since, Timed, Resumes}
+use Rattle.study.specs.History.{Bytes, sameBytes, opening, doing, saving, rewinding, Fate, turned, given, Reply, refused, accepted, Replay, stuck, reached, Machine, Asked, does, grow, extend, replay, Made, Gives, Measured, Fits, Honest, leaves, holds, studyIn, Got, Handed, wroteBy, Wrote, Proper, RunA, begins, makes, RunB, idle, follows, pick, latest, note, past, standing, calls, replies, Alike, Claim, Returns, Repeats, since, Resumes}
+use Rattle.study.specs.Inner.Laws.{Laws, Ticking, Timed}
 
 -- No constructor is another.
 no-replay : {A S : Type 0} (ans : List A) (x : Option S) → _≡_ {A = Replay A S} stuck (reached ans x) → ⊥
 no-replay ans x p = let z : _≡_ {A = ℕ} 0 1 = cc in omega arith
 
-pub no-outcome : {A S : Type 0} (n : ℕ) (b a : A) (s : S) → _≡_ {A = Outcome A S} (turned n b) (given a s) → ⊥
+pub no-outcome : {A S : Type 0} (n : ℕ) (b a : A) (s : S) → _≡_ {A = Fate A S} (turned n b) (given a s) → ⊥
 no-outcome n b a s p = let z : _≡_ {A = ℕ} 0 1 = cc in omega arith
 
 no-replay-none : {A S : Type 0} (ans : List A) (s : S) → _≡_ {A = Replay A S} (reached [] none) (reached ans (some s)) → ⊥
@@ -250,7 +251,7 @@ module _ (M : Machine) where
       reply-of (refused n z) a t g = absurd (no-outcome n z a t (sym (g .0)))
       reply-of (accepted z) a t g = let k : given a t ≡ given z (g .0) = g .2 in let i : g .0 ≡ t = cc in (cc, refl, g .1 ∙ ap {B = Option Study} some i)
 
-      go : (d : Outcome Answer Study) → does M (e .call) y ≡ d → Followed bs before y → Followed (e ∷ bs) ans x
+      go : (d : Fate Answer Study) → does M (e .call) y ≡ d → Followed bs before y → Followed (e ∷ bs) ans x
       go (turned n z) k F = absurd (no-replay ans x (sym (ap (grow M before) k) ∙ q))
       go (given a t) k F =
           let same-study : does M (e .call) (study (e .handed)) ≡ given a t = sym (place L (e .call) (e .handed) (holds M bs) p) ∙ ap (does M (e .call)) (F .at) ∙ k in
@@ -268,7 +269,7 @@ module _ (M : Machine) where
   follow L (follows e {es = bs} r h p) ans x q = follow-one L e bs h p (replay M (calls M bs)) refl (λ a y. follow L r a y) ans x q
 
   -- Two made calls that the definition gives the same, by runs that hold the same study: equal replies, and the runs hold one study again.
-  equal-replies : (d : Outcome Answer Study) (w w′ : World) (x x′ : Option World) → studyIn M x ≡ studyIn M x′ → (y z : Reply Answer) (v u : World)
+  equal-replies : (d : Fate Answer Study) (w w′ : World) (x x′ : Option World) → studyIn M x ≡ studyIn M x′ → (y z : Reply Answer) (v u : World)
       → Gives M d w y v → Gives M d w′ z u → (y ≡ z) × (studyIn M (leaves M y v x) ≡ studyIn M (leaves M z u x′))
   equal-replies d w w′ x x′ p (refused n b) (refused m c) v u g h = let i : d ≡ turned n b = g .0 in let j : d ≡ turned m c = h .0 in (cc, p)
   equal-replies d w w′ x x′ p (refused n b) (accepted a) v u g h = absurd (no-outcome n b a (h .0) (sym (g .0) ∙ h .2))
@@ -346,7 +347,7 @@ module _ (M : Machine) where
       }
 
   -- What a list was reached by was given.
-  ended : (before ans : List Answer) (x : Option Study) (d : Outcome Answer Study) → grow M before d ≡ reached ans x → (a : Answer) × (t : Study) × (d ≡ given a t) × (x ≡ some t)
+  ended : (before ans : List Answer) (x : Option Study) (d : Fate Answer Study) → grow M before d ≡ reached ans x → (a : Answer) × (t : Study) × (d ≡ given a t) × (x ≡ some t)
   ended before ans x (turned n a) r = absurd (no-replay ans x r)
   ended before ans x (given a t) r = (a, t, refl, cc)
 
@@ -394,14 +395,14 @@ module _ (M : Machine) where
   run-b L R es A = let H = run-held L A in repeat L R (standing M es) (H .sound .honest) (H .sound .ans) (some (H .held)) (H .sound .plays)
 
   -- The clock.
-  ticks : Laws M → (k : Clock M) (h : List (Made M)) → Plain h → (ans : List Answer) (s : Study) → replay M (calls M h) ≡ reached ans (some s)
+  ticks : Laws M → (k : Ticking M) (h : List (Made M)) → Plain h → (ans : List Answer) (s : Study) → replay M (calls M h) ≡ reached ans (some s)
       → k .tick s ≡ since M (k .weight) (calls M h)
   unfolding Plain
   ticks L k [] p ans s q = absurd (no-replay-none ans s q)
   ticks L k (e ∷ h) p ans s q = go (e .call) (p .0) (replay M (calls M h)) refl q (λ a t. ticks L k h (p .1) a t)
     where
-      gave : (before : List Answer) (d : Outcome Answer Study) → grow M before d ≡ reached ans (some s) → (a : Answer) × (d ≡ given a s)
-      gave before d r = let k = ended before ans (some s) d r in (k .0, k .2 ∙ ap {B = Outcome Answer Study} (λ t. given (k .0) t) (sym (one-some s (k .1) (k .3))))
+      gave : (before : List Answer) (d : Fate Answer Study) → grow M before d ≡ reached ans (some s) → (a : Answer) × (d ≡ given a s)
+      gave before d r = let k = ended before ans (some s) d r in (k .0, k .2 ∙ ap {B = Fate Answer Study} (λ t. given (k .0) t) (sym (one-some s (k .1) (k .3))))
 
       go : (c : Asked M) → NotRewind c → (so : Replay Answer Study) → replay M (calls M h) ≡ so → extend M c so ≡ reached ans (some s)
           → ((a : List Answer) (t : Study) → replay M (calls M h) ≡ reached a (some t) → k .tick t ≡ since M (k .weight) (calls M h))
@@ -414,7 +415,7 @@ module _ (M : Machine) where
       go (saving m) n (reached before (some t)) z r f = let d = gave before (saves m (some t)) r in k .saves-by-0 m t (d .0) s (d .1) ∙ f before t z
       go (rewinding b l) n (reached before x) z r f = absurd n
 
-  pub timed : Laws M → (k : Clock M) → Timed M k
+  pub timed : Laws M → (k : Ticking M) → Timed M k
   timed L k es A w s p q =
       let H = run-held L A in
       let e : w ≡ H .world = one-some w (H .world) (sym p ∙ H .is) in
@@ -422,7 +423,7 @@ module _ (M : Machine) where
       ap (k .tick) i ∙ ticks L k (standing M es) (H .sound .plain) (H .sound .ans) (H .held) (H .sound .plays)
 
   -- Saves can be taken up again.
-  accepts : (d : Outcome Answer Study) (z : Answer) (s : Study) → d ≡ given z s → (w : World) (y : Reply Answer) (v : World)
+  accepts : (d : Fate Answer Study) (z : Answer) (s : Study) → d ≡ given z s → (w : World) (y : Reply Answer) (v : World)
       → Gives M d w y v → (z : Answer) × (y ≡ accepted z) × (study v ≡ some s)
   accepts d z s p w (refused n b) v g = absurd (no-outcome n b z s (sym (g .0) ∙ p))
   accepts d z s p w (accepted a) v g = let i : d ≡ given a (g .0) = g .2 in let k : g .0 ≡ s = cc in (a, refl, g .1 ∙ ap {B = Option Study} some k)

@@ -23,13 +23,13 @@ use Rattle.grid.specs.declared.Region.{Region}
 use Rattle.grid.specs.declared.Record.{Record}
 use Rattle.grid.specs.Edited.{edited}
 use Rattle.grid.specs.Fault.{beyond, isAbsent}
-use Rattle.grid.specs.Stores.{Stores, cells, numberAt}
+use Rattle.grid.specs.Stores.{Stores, cells, numberAt, lineLength}
 use Rattle.grid.specs.Canon.{regionBy, canonRegion, canon}
-use Rattle.ade.specs.Polarization.{polarized as moved, poleAt, polesOf, pOld, pBefore, pNew, pAfter, beforeAfter, dpAfter, poleNumber, polesAfter, deltaP}
+use Rattle.ade.specs.Polarization.{polarized, poleAt, poleCountAt, pOld, pPrev, pNew, pAfter, pPrevAfter, dpAfter, poleNumber, polesAfter, deltaP}
 use Rattle.fdtd.specs.Halves.{halfH, psiAfter, firstAfter, secondAfter, movesAt, curlAt, magneticAt, magneticAfter, halfE, electricAt, electricAfter}
-use Rattle.tfsf.specs.Line.{lineLength, lineH, lineE}
-use Rattle.tfsf.specs.Corrections.{addedIn, hyLower, hyUpper, hzLower, hzUpper, correctH, exLower, exUpper, ezLower, ezUpper, correctE}
-use Rattle.step.specs.Step.{lineMid, correctedH, correctedE, lineEnd, polarized, stepped, ticked}
+use Rattle.tfsf.specs.Line.{lineH, lineE}
+use Rattle.tfsf.specs.Corrections.{correctFace, correctH, correctE}
+use Rattle.step.specs.Step.{lineMid, correctedH, correctedE, lineEnd, polesStepped, stepped, ticked}
 use Rattle.study.proofs.Kept.{material-kept, count-kept, pole-kept}
 
 -- ---- the half steps
@@ -94,11 +94,11 @@ module _ (r : Record) where
   end-kept eps0 c0 x line = ap (λ (b : Bool). cond b line (lineE eps0 c0 (r .spacings) (lineLength (r .nz)) x line)) (absent-kept r)
 
   bare-h : (mu0 : Float) (l : List DispersiveMaterial) (media line h : List Float) → correctH mu0 (bare r l (r .region)) media line h ≡ correctH mu0 r media line h
-  unfolding correctH hyLower hyUpper hzLower hzUpper addedIn
+  unfolding correctH correctFace
   bare-h mu0 l media line h = refl
 
   bare-e : (eps0 : Float) (l : List DispersiveMaterial) (media line e : List Float) → correctE eps0 (bare r l (r .region)) media line e ≡ correctE eps0 r media line e
-  unfolding correctE exLower exUpper ezLower ezUpper addedIn
+  unfolding correctE correctFace
   bare-e eps0 l media line e = refl
 
   -- where there is no region nothing is corrected, and else the region is the canon's
@@ -147,18 +147,18 @@ Known r ids = eqb (r .«built_count») 0 ≡ false → (m : ℕ) → m < cells r
 
 module _ (eps0 : Float) (r : Record) (ids : List ℕ) (electric poles : List Float) where
   module _ (m : ℕ) (low : getD ids m 0 < r .«material_count») where
-    of-kept : polesOf eps0 (canon r) ids electric poles m ≡ polesOf eps0 r ids electric poles m
+    of-kept : poleCountAt eps0 (canon r) ids electric poles m ≡ poleCountAt eps0 r ids electric poles m
     of-kept = count-kept r (getD ids m 0) low
 
-    at-kept : (slot : ℕ) → slot < polesOf eps0 r ids electric poles m → poleAt (canon r) (getD ids m 0) slot ≡ poleAt r (getD ids m 0) slot
+    at-kept : (slot : ℕ) → slot < poleCountAt eps0 r ids electric poles m → poleAt (canon r) (getD ids m 0) slot ≡ poleAt r (getD ids m 0) slot
     at-kept slot h =
         ap (λ (d : DispersiveMaterial). getD (d .poles) slot blankSlot .pole) (material-kept r (getD ids m 0) low)
         ∙ ap (λ (p : PoleSlot). p .pole) (pole-kept (getD (r .materials) (getD ids m 0) beyond) slot h)
 
-    new-kept : (slot c : ℕ) → slot < polesOf eps0 r ids electric poles m → pNew eps0 (canon r) ids electric poles slot c m ≡ pNew eps0 r ids electric poles slot c m
+    new-kept : (slot c : ℕ) → slot < poleCountAt eps0 r ids electric poles m → pNew eps0 (canon r) ids electric poles slot c m ≡ pNew eps0 r ids electric poles slot c m
     unfolding pNew canon
     new-kept slot c h =
-        ap (λ (p : Pole). moved (adeCoeffs eps0 (r .spacings .dt) p) (pOld eps0 r ids electric poles slot c m) (pBefore eps0 r ids electric poles slot c m) (numberAt electric (cells r) c m))
+        ap (λ (p : Pole). polarized (adeCoeffs eps0 (r .spacings .dt) p) (pOld eps0 r ids electric poles slot c m) (pPrev eps0 r ids electric poles slot c m) (numberAt electric (cells r) c m))
         (at-kept slot h)
 
     old-same : (slot c : ℕ) → pOld eps0 (canon r) ids electric poles slot c m ≡ pOld eps0 r ids electric poles slot c m
@@ -168,19 +168,19 @@ module _ (eps0 : Float) (r : Record) (ids : List ℕ) (electric poles : List Flo
     after-kept : (slot c : ℕ) → pAfter eps0 (canon r) ids electric poles slot c m ≡ pAfter eps0 r ids electric poles slot c m
     after-kept slot c =
         ap (λ (n : ℕ). cond (ltb slot n) (pNew eps0 (canon r) ids electric poles slot c m) (pOld eps0 (canon r) ids electric poles slot c m)) of-kept
-        ∙ ap (λ (x : Float). cond (ltb slot (polesOf eps0 r ids electric poles m)) (pNew eps0 (canon r) ids electric poles slot c m) x) (old-same slot c)
-        ∙ counted (ltb slot (polesOf eps0 r ids electric poles m)) _ _ _ (λ h. new-kept slot c (ltb-true slot _ h))
+        ∙ ap (λ (x : Float). cond (ltb slot (poleCountAt eps0 r ids electric poles m)) (pNew eps0 (canon r) ids electric poles slot c m) x) (old-same slot c)
+        ∙ counted (ltb slot (poleCountAt eps0 r ids electric poles m)) _ _ _ (λ h. new-kept slot c (ltb-true slot _ h))
 
-    before-kept : (slot c : ℕ) → beforeAfter eps0 (canon r) ids electric poles slot c m ≡ beforeAfter eps0 r ids electric poles slot c m
+    before-kept : (slot c : ℕ) → pPrevAfter eps0 (canon r) ids electric poles slot c m ≡ pPrevAfter eps0 r ids electric poles slot c m
     unfolding canon
     before-kept slot c =
-        ap (λ (n : ℕ). cond (ltb slot n) (pOld eps0 r ids electric poles slot c m) (pBefore eps0 r ids electric poles slot c m)) of-kept
+        ap (λ (n : ℕ). cond (ltb slot n) (pOld eps0 r ids electric poles slot c m) (pPrev eps0 r ids electric poles slot c m)) of-kept
 
     dp-kept : (c : ℕ) → dpAfter eps0 (canon r) ids electric poles c m ≡ dpAfter eps0 r ids electric poles c m
     unfolding dpAfter
     dp-kept c =
         ap (λ (n : ℕ). summed n (λ slot. pNew eps0 (canon r) ids electric poles slot c m ⊖ pOld eps0 (canon r) ids electric poles slot c m)) of-kept
-        ∙ summed-same (polesOf eps0 r ids electric poles m) _ _ (λ slot h. rw (new-kept slot c h, old-same slot c))
+        ∙ summed-same (poleCountAt eps0 r ids electric poles m) _ _ (λ slot h. rw (new-kept slot c h, old-same slot c))
 
     number-kept : (n : ℕ) → poleNumber eps0 (canon r) ids electric poles n m ≡ poleNumber eps0 r ids electric poles n m
     unfolding poleNumber canon
@@ -198,8 +198,8 @@ module _ (eps0 : Float) (r : Record) (ids : List ℕ) (electric poles : List Flo
   off-or-on true x y h = refl
   off-or-on false x y h = h refl
 
-  pub poles-kept : Known r ids → polarized eps0 (canon r) ids electric poles ≡ polarized eps0 r ids electric poles
-  unfolding polarized canon
+  pub poles-kept : Known r ids → polesStepped eps0 (canon r) ids electric poles ≡ polesStepped eps0 r ids electric poles
+  unfolding polesStepped canon
   poles-kept k = off-or-on (eqb (r .«built_count») 0) _ _ (λ h. poles-same (k h))
 
 -- ---- the whole step

@@ -28,12 +28,12 @@ use Rattle.opening.specs.Opening.{openRecord, openMedia, inactive, openTables, 
 use Rattle.boundary.specs.Walls.{setPeriodicCall}
 use Rattle.fields.specs.Fields.{energyFault, energyOf, energyCall, planeFault, planeCall}
 use Rattle.step.specs.Step.{freshIds, stepFault, stepped, ticked, stepCall}
-use Rattle.block.specs.Held.{held, Held}
+use Rattle.block.specs.Inner.Held.{held, Held}
 use Rattle.block.specs.Block.{blockLength, blockFine, blockRecord, blockOf}
 use Rattle.block.proofs.Turns.{block-long}
 use Rattle.block.proofs.Back.{fine-block, record-block}
-use Rattle.format.specs.Savable.{StoresHeld}
-use Rattle.format.specs.Save.{saveLength as bytesLong, saveBytes, saveFault}
+use Rattle.format.specs.InMemory.{StoresHeld}
+use Rattle.format.specs.Save.{saveLength, saveBytes, saveFault}
 use Rattle.format.specs.Rewind.{rewindFault}
 use Rattle.format.proofs.Back.{save-trailing}
 use Rattle.format.proofs.Same.{save-fit, save-names}
@@ -188,7 +188,7 @@ h₂ = held-tick r₁ h₁ (omega arith)
 
 -- ---- worlds: memory in which anything stands, two of them; then what the calls leave
 abbrev fresh : (s : Stores) → StoresHeld s → World
-fresh s h = record { block = replicate 2073 7; kept = s; bytes = all-replicate (λ b. ltb b 256) 2073 7 tt; fits = h }
+fresh s h = record { block = replicate blockLength 7; kept = s; bytes = all-replicate (λ b. ltb b 256) blockLength 7 tt; fits = h }
 
 abbrev pub w₀ : World
 w₀ = fresh s₁ (open-holds 1 1 1 0 unit (said 1) .fits)
@@ -253,7 +253,7 @@ periodic-x = refl
 
 -- 1,388 bytes are enough for either study, and 1,387 are not
 room-for : (saveFault r₁ l₁ 1388 ≡ 0) × (saveFault r₁ l₁ 2000 ≡ 0) × (saveFault r₂ l₁ 1388 ≡ 0) × (saveFault r₂ l₁ 1387 ≡ 12)
-unfolding saveFault bytesLong faultLent faultOf sizeFits sidesFit sideFits spacingsFit studyFits countsFit polesFit allBelow layerFits regionFits storeLengths openStores ofBits sameLengths openMedia openTables inactive
+unfolding saveFault saveLength faultLent faultOf sizeFits sidesFit sideFits spacingsFit studyFits countsFit polesFit allBelow layerFits regionFits storeLengths openStores ofBits sameLengths openMedia openTables inactive
 room-for = (refl, refl, refl, refl)
 
 fits₂ : (n k : ℕ) → saveFault r₂ l₁ n ≡ k → saveFault r₂ (lengthsOf s₂) n ≡ k
@@ -343,7 +343,7 @@ abbrev run₁₅ : List (Made engine)
 run₁₅ = e₁₅ ∷ e₁₄ ∷ run₁₃
 
 pub opened : Honest engine e₁
-opened = opens w₀ w₁ (cube 1) (said 1) r₁ refl k₁ refl (judged .0) (length-replicate {A = ℕ} 2073 7)
+opened = opens w₀ w₁ (cube 1) (said 1) r₁ refl k₁ refl (judged .0) (length-replicate {A = ℕ} blockLength 7)
 
 pub not-opened : Honest engine e₁₂
 not-opened = opens-not w₁ (cube 2) (said 2) 3 (judged .1)
@@ -383,7 +383,7 @@ is-run₁₃ =
     ) (rewinds-not w₃ b₊ 15 (one-more .0) (one-more .1)) tt
     ) (honest-none w₆ w₆ nothing nothing (step oneF) (all-replicate held 1 oneF one-fits) refl none-there refl refl refl) tt
     ) not-opened tt
-    ) (opens w₅ w₄ (cube 2) (said 2) r₄ refl k₄ refl (judged .2) (length-replicate {A = ℕ} 2073 7)) (tt, tt)
+    ) (opens w₅ w₄ (cube 2) (said 2) r₄ refl k₄ refl (judged .2) (length-replicate {A = ℕ} blockLength 7)) (tt, tt)
 
 pub is-run : RunA engine run₁₅
 is-run =

@@ -7,7 +7,7 @@ use mathlib.Core.Option.{Option, none, some}
 use mathlib.Core.List.{List, [], _∷_}
 use lib.ListN.{length, take}
 use lib.Ieee.{Float}
-use Rattle.study.specs.History.{Outcome as Fate, turned, given, Reply, refused, accepted, opening, doing, saving, rewinding, Machine, Made, Honest}
+use Rattle.study.specs.History.{Fate, turned, given, Reply, refused, accepted, opening, doing, saving, rewinding, Machine, Made, Honest}
 use Rattle.root.specs.Rounded.{zeroF}
 use Rattle.root.specs.Constants.{eps0, mu0, c0}
 use Rattle.grid.specs.declared.RegionKind.the-variants.{BoxRegion}
@@ -27,7 +27,7 @@ use Rattle.run.specs.Run.{runCall}
 use Rattle.format.specs.Save.{saveBytes, saveFault, lengthCall}
 use Rattle.format.specs.Rewind.{readRecord, readStores, rewindFault}
 use Rattle.calls.specs.Blocks.{lentBlock, addBytesCall, axisBits}
-use Rattle.study.specs.World.{World, Unchanged, Lent, lentIn, Study, studyOf, Opening, Act, setMaterial, assignBox, assignHalfspace, addMaterial, buildDispersion, setPeriodic, wallsPeriodic, wallsConductor, wallsLossy, wallsCpml, slab, injector, boxRegion, step, run, resetFields, totalEnergy, planeReading, saveLength, Asked, SaidCall, Answer, nothing, numbers, floats, Room, front, puts, NumbersLent, FloatsLent, writtenIn}
+use Rattle.study.specs.World.{World, Unchanged, Lent, lentIn, Study, studyOf, Opening, Act, setMaterial, assignBox, assignHalfspace, addMaterial, buildDispersion, setPeriodic, wallsPeriodic, wallsConductor, wallsLossy, wallsCpml, slab, injector, boxRegion, step, run, resetFields, totalEnergy, planeReading, askLength, Asked, SaidCall, Answer, nothing, numbers, floats, Room, front, puts, NumbersLent, FloatsLent, writtenIn}
 
 -- ---- the stores with some of them put anew
 abbrev pub putMedia : List Float → Stores → Stores
@@ -85,8 +85,8 @@ numbering n f = record { Rest = ℕ; call = f; answer = λ k. numbers (front n k
 abbrev pub reading : ℕ → (Record → Stores → Outcome Float) → Form
 reading n f = record { Rest = Float; call = f; answer = λ x. floats (front n x); stored = λ x s. s; idle = λ s. zeroF; nought = floats (front n zeroF); lends = FloatsLent n }
 
-abbrev pub boxOf : (i0 i1 j0 j1 k0 k1 : ℕ) → Region
-boxOf i0 i1 j0 j1 k0 k1 = record { kind = BoxRegion; i0 = i0; i1 = i1; j0 = j0; j1 = j1; k0 = k0; k1 = k1 }
+abbrev pub boxRegionOf : (i0 i1 j0 j1 k0 k1 : ℕ) → Region
+boxRegionOf i0 i1 j0 j1 k0 k1 = record { kind = BoxRegion; i0 = i0; i1 = i1; j0 = j0; j1 = j1; k0 = k0; k1 = k1 }
 
 abbrev pub form : Act → Form
 form (setMaterial b eps mu sigma) = storing (λ r s. setMaterialCall r b eps mu sigma (s .media)) (λ s. s .media) putMedia
@@ -109,13 +109,13 @@ form (wallsCpml x y z t g n) = record {
 }
 form (slab k0 k1) = storing (λ r s. regionCall r (slabZ r k0 k1) (s .aux)) (λ s. s .aux) putAux
 form (injector k0) = storing (λ r s. regionCall r (injectorZ r k0) (s .aux)) (λ s. s .aux) putAux
-form (boxRegion i0 i1 j0 j1 k0 k1) = storing (λ r s. regionCall r (boxOf i0 i1 j0 j1 k0 k1) (s .aux)) (λ s. s .aux) putAux
+form (boxRegion i0 i1 j0 j1 k0 k1) = storing (λ r s. regionCall r (boxRegionOf i0 i1 j0 j1 k0 k1) (s .aux)) (λ s. s .aux) putAux
 form (step x) = storing (λ r s. stepCall eps0 mu0 c0 r x s) (λ s. s) (λ t s. t)
 form (run xs) = storing (λ r s. runCall eps0 mu0 c0 r xs s) (λ s. s) (λ t s. t)
 form resetFields = storing (λ r s. resetCall r (resetOf s)) resetOf putReset
 form (totalEnergy n) = reading n (λ r s. energyCall eps0 mu0 r (s .electric) (s .magnetic) (s .media))
 form (planeReading k n) = reading n (λ r s. planeCall r k (s .electric) (s .magnetic))
-form (saveLength n) = numbering n (λ r s. lengthCall r)
+form (askLength n) = numbering n (λ r s. lengthCall r)
 
 -- ---- what the definition gives: the number of the refusal and what it then answers, or the answer and the study
 abbrev pub settled : ℕ → (refusing answer : Answer) → Study → Fate Answer Study
@@ -196,7 +196,7 @@ weightOf (run xs) = length xs
 weightOf resetFields = 0
 weightOf (totalEnergy n) = 0
 weightOf (planeReading k n) = 0
-weightOf (saveLength n) = 0
+weightOf (askLength n) = 0
 
 -- ---- what a C function replied, by the number that it returned
 abbrev pub replyOf : ℕ → (refusing answer : Answer) → Reply Answer

@@ -31,9 +31,9 @@ pub data Call (Open Act Lengths : Type 0) : Type 0 where
   rewinding : Bytes → Lengths → Call Open Act Lengths
 
 -- What the definition gives for a call: the number of its first fault with the answers of a refusal, or the answers and the study after it.
-pub data Outcome (Answer Study : Type 0) : Type 0 where
-  turned : ℕ → Answer → Outcome Answer Study
-  given : Answer → Study → Outcome Answer Study
+pub data Fate (Answer Study : Type 0) : Type 0 where
+  turned : ℕ → Answer → Fate Answer Study
+  given : Answer → Study → Fate Answer Study
 
 -- What a made call replied.
 pub data Reply (Answer : Type 0) : Type 0 where
@@ -69,10 +69,10 @@ pub record Machine : Type 1 where
   pub Unchanged : World → World → Type 0
   pub lengths : World → Lengths
   -- The definition (demand 2's), a function for each kind of call. An opening and a rewind are handed no study.
-  pub opens : Open → Lengths → Outcome Answer Study
-  pub acts : Act → Option Study → Outcome Answer Study
-  pub saves : (room : ℕ) → Option Study → Outcome Answer Study
-  pub loads : Bytes → Lengths → Outcome Answer Study
+  pub opens : Open → Lengths → Fate Answer Study
+  pub acts : Act → Option Study → Fate Answer Study
+  pub saves : (room : ℕ) → Option Study → Fate Answer Study
+  pub loads : Bytes → Lengths → Fate Answer Study
   -- The room with the answer in it, and nothing else of it changed.
   pub puts : Answer → Room → Room
   -- The bytes of a save's answer, and the bytes that a study writes.
@@ -88,14 +88,14 @@ module _ (M : Machine) where
   -- ---- what the definition gives
 
   -- One call.
-  abbrev pub does : Asked → Option Study → Outcome Answer Study
+  abbrev pub does : Asked → Option Study → Fate Answer Study
   does (opening o l) x = opens o l
   does (doing c) x = acts c x
   does (saving n) x = saves n x
   does (rewinding b l) x = loads b l
 
   -- A list of calls.
-  abbrev pub grow : List Answer → Outcome Answer Study → Replay Answer Study
+  abbrev pub grow : List Answer → Fate Answer Study → Replay Answer Study
   grow ans (turned n a) = stuck
   grow ans (given a s) = reached (a ∷ ans) (some s)
 
@@ -132,7 +132,7 @@ module _ (M : Machine) where
 
   -- A refusal gives the definition's number and answers, and leaves all as it was; an accepted call gives the definition's answer and
   -- leaves the definition's study.
-  abbrev pub Gives : Outcome Answer Study → World → Reply Answer → World → Type 0
+  abbrev pub Gives : Fate Answer Study → World → Reply Answer → World → Type 0
   Gives d w (refused n a) v = (d ≡ turned n a) × Unchanged w v
   Gives d w (accepted a) v = (s : Study) × (study v ≡ some s) × (d ≡ given a s)
 
@@ -291,14 +291,6 @@ module _ (M : Machine) where
   abbrev pub Repeats : Type 0
   Repeats = (es : List Made) → RunA es → (bs : List Made) × RunB bs × (calls bs ≡ calls (standing es))
 
-  -- A clock: 0 at an opening, moved on by each act by its weight, kept by a save.
-  pub record Clock : Type 0 where
-    pub tick : Study → ℕ
-    pub weight : Act → ℕ
-    pub opens-at-0 : (o : Open) (l : Lengths) (a : Answer) (t : Study) → opens o l ≡ given a t → tick t ≡ 0
-    pub acts-by : (c : Act) (s : Study) (a : Answer) (t : Study) → acts c (some s) ≡ given a t → tick t ≡ tick s + weight c
-    pub saves-by-0 : (n : ℕ) (s : Study) (a : Answer) (t : Study) → saves n (some s) ≡ given a t → tick t ≡ tick s
-
   -- What the calls since the last opening add up to.
   abbrev pub since : (Act → ℕ) → List Asked → ℕ
   since f [] = 0
@@ -306,11 +298,6 @@ module _ (M : Machine) where
   since f (doing c ∷ cs) = since f cs + f c
   since f (saving n ∷ cs) = since f cs
   since f (rewinding b l ∷ cs) = since f cs
-
-  -- The clock after run A is the one of the calls that stand.
-  abbrev pub Timed : Clock → Type 0
-  Timed k = (es : List Made) → RunA es → (w : World) (s : Study) → holds es ≡ some w → study w ≡ some s
-      → k .tick s ≡ since (k .weight) (calls (standing es))
 
   -- Bytes that run A wrote can be taken up again at its end: they are what the study writes that the definition gives for the calls of their
   -- latest copy; and into stores of that study's lengths the rewind is accepted, and gives that study.
@@ -325,24 +312,3 @@ module _ (M : Machine) where
 
   abbrev pub Resumes : Type 0
   Resumes = (es : List Made) → RunA es → (b : Bytes) → Wrote b es → Resumable es b
-
-  -- ---- what a machine must show of its definition. `Fitting` is its own: what the study of every world has, as that the numbers fit their types.
-  -- (Studies are lists of numbers of any size; a save can only give back what it has room for.) No formula has to be shown to keep it: every
-  -- record and store of a run is a World.
-  pub record Laws : Type 1 where
-    pub Fitting : Study → Type 0
-    pub worlds-fit : (w : World) (s : Study) → study w ≡ some s → Fitting s
-    -- A world is itself unchanged, and what is unchanged has the same study.
-    pub unchanged-self : (w : World) → Unchanged w w
-    pub unchanged-study : (w v : World) → Unchanged w v → study v ≡ study w
-    -- A call on no study is turned down.
-    pub acts-on : (c : Act) (a : Answer) (t : Study) → acts c none ≡ given a t → ⊥
-    pub saves-of : (n : ℕ) (a : Answer) (t : Study) → saves n none ≡ given a t → ⊥
-    -- An accepted save leaves the study, and its answer is what the study writes.
-    pub save-keeps : (n : ℕ) (s : Study) (a : Answer) (t : Study) → saves n (some s) ≡ given a t → t ≡ s
-    pub save-writes : (n : ℕ) (s : Study) (a : Answer) (t : Study) → saves n (some s) ≡ given a t → written a ≡ bytes s
-    -- A rewind to it, where accepted, gives the study that was written; and it is accepted where what is lent has the lengths.
-    pub restores : (n : ℕ) (s : Study) (a : Answer) (t : Study) → Fitting s → saves n (some s) ≡ given a t
-        → (l : Lengths) (z : Answer) (u : Study) → loads (bytes s) l ≡ given z u → u ≡ s
-    pub rereads : (n : ℕ) (s : Study) (a : Answer) (t : Study) (w : World) → study w ≡ some s → saves n (some s) ≡ given a t
-        → (z : Answer) × (loads (bytes s) (lengths w) ≡ given z s)

@@ -4,3 +4,4 @@ pub mod History
 pub mod World
 pub mod Calls
 pub mod Demand
+pub mod Inner

@@ -8,8 +8,8 @@ use lib.Dec.{T}
 use lib.ListN.{length}
 use lib.Ieee.{Float}
 use Rattle.study.specs.History.{Call, opening, doing, saving, rewinding}
-use Rattle.codec.specs.Lists.{put, every}
-use Rattle.codec.specs.Bytes.{bytesFit}
+use Rattle.codec.specs.Lists.{put}
+use Rattle.codec.specs.Bytes.{bytesFit, floatsFit}
 use Rattle.root.specs.declared.Spacings.{Spacings}
 use Rattle.cells.specs.declared.IndexBox.{IndexBox}
 use Rattle.grid.specs.declared.Record.{Record}
@@ -17,9 +17,8 @@ use Rattle.grid.specs.declared.stores.Lengths.{Lengths}
 use Rattle.grid.specs.Stores.{Stores, lengthsOf}
 use Rattle.grid.specs.Canon.{canon}
 use Rattle.boundary.specs.declared.LossyAbsorber.{LossyAbsorber}
-use Rattle.block.specs.Held.{held, Held}
 use Rattle.block.specs.Block.{blockFine, blockRecord}
-use Rattle.format.specs.Savable.{StoresHeld}
+use Rattle.format.specs.InMemory.{StoresHeld}
 
 -- ---- a block's bytes and nine stores, as memory holds them: `hold` of `api` shows that whatever code is lent is so
 pub record World : Type 0 where
@@ -52,11 +51,6 @@ ifFine false t = none
 -- a block that is no record has none
 abbrev pub studyOf : World → Option Study
 studyOf w = ifFine (blockFine (w .block)) (record { rec = canon (blockRecord (w .block)); kept = w .kept })
-
--- what every record and every nine stores meet that memory holds
-pub record Holding (r : Record) (s : Stores) : Type 0 where
-  pub held : Held r
-  pub fits : StoresHeld s
 
 -- ---- what is asked
 pub record Opening : Type 0 where
@@ -95,7 +89,7 @@ pub data Act : Type 0 where
   totalEnergy : (room : ℕ) → Act
   planeReading : (k : ℕ) → (room : ℕ) → Act
   -- cichowiej_save_length
-  saveLength : (room : ℕ) → Act
+  askLength : (room : ℕ) → Act
 
 -- an opening is cichowiej_open, a save cichowiej_save, a rewind cichowiej_rewind
 abbrev pub Asked : Type 0
@@ -103,7 +97,7 @@ Asked = Call Opening Act Lent
 
 -- ---- what is asked is such as memory can hold: floats of 64 bits, bytes. Whole numbers need no bound here: a call that keeps one has judged it
 abbrev pub Floats : List Float → Type 0
-Floats l = T (every held l)
+Floats l = T (floatsFit l)
 
 abbrev pub SaidOpening : Opening → Type 0
 SaidOpening o = Floats (o .spacings .dx ∷ o .spacings .dy ∷ o .spacings .dz ∷ o .spacings .dt ∷ [])
@@ -127,7 +121,7 @@ SaidAct (run xs) = Floats xs
 SaidAct resetFields = Unit {0}
 SaidAct (totalEnergy n) = Unit {0}
 SaidAct (planeReading k n) = Unit {0}
-SaidAct (saveLength n) = Unit {0}
+SaidAct (askLength n) = Unit {0}
 
 abbrev pub SaidCall : Asked → Type 0
 SaidCall (opening o l) = SaidOpening o

@@ -1,4 +1,4 @@
--- A number added in each cell of a box, row by row, against `addedIn`. Assumes nothing.
+-- A number added in each cell of a box, row by row, against `correctFace`. Assumes nothing.
 use Prim.Native.Nat.{ℕ, _+_, _*_, _≤_, _<_}
 use native.Mathlib.Nat.{mul-one}
 use native.Mathlib.Omega.{arith}
@@ -14,16 +14,18 @@ use Rattle.codec.proofs.Lists.{part-length, part-one, put-one}
 use Rattle.root.specs.Rounded.{_⊕_}
 use Rattle.cells.specs.declared.IndexBox.{IndexBox}
 use Rattle.cells.specs.Cells.{joined, row, cellwise, cellIndex, components}
-use Rattle.cells.specs.Blocks.{on, within, inBlocks}
-use Rattle.cells.specs.Box.{inBox}
-use Rattle.cells.proofs.Blocks.{joined-same, block-end, on-block}
+use Rattle.cells.specs.Reading.{block-end}
+use Rattle.cells.specs.Inner.Blocks.{on, inBlocks}
+use Rattle.cells.specs.Box.{inBox, within}
+use Rattle.cells.proofs.Blocks.{joined-same, on-block}
 use Rattle.cells.proofs.Sweeps.{Keeps, blocks-length, parts-whole, sweep-none, sweep-more, sweep-length}
 use Rattle.cells.proofs.Pointwise.{part-row, getD-part, cellwise-same, cell-in, cells-same, inner, nested-place}
 use Rattle.cells.proofs.Extensional.{cellwise-are}
 use Rattle.grid.specs.declared.Record.{Record}
-use Rattle.grid.specs.Stores.{numberAt, cells}
-use Rattle.tfsf.specs.Corrections.{addedIn}
-use Rattle.tfsf.specs.Faces.{addRow, addPlane, addBox}
+use Rattle.grid.specs.Stores.{cells}
+use Rattle.tfsf.specs.declared.faces.Face.{Face}
+use Rattle.tfsf.specs.Corrections.{cellNumber, correctFace}
+use Rattle.tfsf.specs.Inner.Faces.{addRow, addPlane, addBox}
 
 -- ---- the loop over a row
 each : (ℕ → Float) → ℕ → List Float → List Float
@@ -119,21 +121,25 @@ box-at nx ny nz b f l h = joined-same nz _ _ (λ k q. go k q (within (b .k0) (b 
         ∙ joined-same nx _ _ (λ i t. ap (λ (x : Float). x ∷ [])
         (getD-part l (k * (ny * nx)) (ny * nx) (j * nx + i) nan (inner j i nx ny r t) ∙ ap (λ (n : ℕ). getD l n nan) (nested-place nx ny i j k))))
 
--- ---- one component of three
-pub box-added : (r : Record) (c : ℕ) (b : IndexBox) (f g : ℕ → ℕ → ℕ → Float) (s : List Float) → c < 3 → length s ≡ 3 * cells r →
-    ((i j k : ℕ) → inBox b i j k ≡ true → f i j k ≡ g i j k) →
-    on (c * cells r) (r .nz * (r .ny * r .nx)) (addBox (r .nx) (r .ny) (r .nz) b f) s ≡ addedIn r c b g s
-unfolding addedIn components
-box-added r c b f g s small long same =
-    ap (λ (q : ℕ). on (c * q) N F s) count
+-- ---- a face: one component of three
+pub face-added : (r : Record) (f : Face) (a g : ℕ → ℕ → ℕ → Float) (s : List Float) → f .component < 3 → length s ≡ 3 * cells r →
+    ((i j k : ℕ) → a i j k ≡ g i j k) →
+    cond (f .there) (on (f .component * cells r) (r .nz * (r .ny * r .nx)) (addBox (r .nx) (r .ny) (r .nz) (f .b) a) s) s ≡ correctFace r f g s
+unfolding correctFace components
+face-added r f a g s small long same =
+    ap (λ (t : List Float). cond (f .there) t s)
+    (ap (λ (q : ℕ). on (c * q) N F s) count
     ∙ ap (on (c * N) N F) (sym (parts-whole 3 N s size))
-    ∙ on-block 3 c N (λ d. part s (d * N) N) after F small (λ d k. short d k) (box-keeps (r .nx) (r .ny) (r .nz) b f _ (short c small)) here there
+    ∙ on-block 3 c N (λ d. part s (d * N) N) after F small (λ d k. short d k) (box-keeps (r .nx) (r .ny) (r .nz) (f .b) a _ (short c small)) here there)
   where
+    c : ℕ
+    c = f .component
+
     N : ℕ
     N = r .nz * (r .ny * r .nx)
 
     F : List Float → List Float
-    F = addBox (r .nx) (r .ny) (r .nz) b f
+    F = addBox (r .nx) (r .ny) (r .nz) (f .b) a
 
     count : cells r ≡ N
     count = cells-same (r .nx) (r .ny) (r .nz)
@@ -145,26 +151,18 @@ box-added r c b f g s small long same =
     short d k = part-length s (d * N) N (omega (arith, size, block-end d 3 N k))
 
     after : ℕ → List Float
-    after d =
-        cellwise (r .nx) (r .ny) (r .nz) (λ i j k.
-        added (eqb d c && inBox b i j k) (numberAt s (cells r) d (cellIndex (r .nx) (r .ny) i j k)) (g i j k))
+    after d = cellwise (r .nx) (r .ny) (r .nz) (λ i j k. added (eqb d c && inBox (f .b) i j k) (cellNumber r s d i j k) (g i j k))
 
-    place : (d i j k : ℕ) → i < r .nx → j < r .ny → k < r .nz →
-        getD (part s (d * N) N) (cellIndex (r .nx) (r .ny) i j k) nan ≡ numberAt s (cells r) d (cellIndex (r .nx) (r .ny) i j k)
+    place : (d i j k : ℕ) → i < r .nx → j < r .ny → k < r .nz → getD (part s (d * N) N) (cellIndex (r .nx) (r .ny) i j k) nan ≡ cellNumber r s d i j k
     place d i j k p q t =
         getD-part s (d * N) N (cellIndex (r .nx) (r .ny) i j k) nan (cell-in (r .nx) (r .ny) (r .nz) i j k p q t)
         ∙ ap (λ (m : ℕ). getD s (d * m + cellIndex (r .nx) (r .ny) i j k) nan) (sym count)
 
-    sum : (t : Bool) (x y z : Float) → (t ≡ true → y ≡ z) → added t x z ≡ added t x y
-    sum true x y z e = ap (λ (v : Float). x ⊕ v) (sym (e refl))
-    sum false x y z e = refl
-
     here : after c ≡ F (part s (c * N) N)
     here =
         cellwise-same (r .nx) (r .ny) (r .nz) _ _ (λ i j k p q t.
-        rw (eq-eqb c c refl) (sum (inBox b i j k) _ (f i j k) (g i j k) (same i j k)
-        ∙ ap (λ (x : Float). added (inBox b i j k) x (f i j k)) (sym (place c i j k p q t))))
-        ∙ sym (box-at (r .nx) (r .ny) (r .nz) b f (part s (c * N) N) (short c small))
+        rw (eq-eqb c c refl, sym (same i j k)) (ap (λ (x : Float). added (inBox (f .b) i j k) x (a i j k)) (sym (place c i j k p q t))))
+        ∙ sym (box-at (r .nx) (r .ny) (r .nz) (f .b) a (part s (c * N) N) (short c small))
 
     there : (d : ℕ) → d < 3 → (d ≡ c → ⊥) → after d ≡ part s (d * N) N
     there d k o =

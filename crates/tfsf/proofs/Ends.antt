@@ -12,13 +12,13 @@ use lib.Seq.{getD-set-same, getD-set-other, take-all}
 use lib.Ieee.{Float, nan}
 use borrow.Author.Tests.{ltb-true, ltb-false, eqb-true, eqb-false}
 use Rattle.codec.specs.Lists.{part}
-use Rattle.root.specs.Rounded.{_⊕_, _⊖_, _⊗_, _⊘_}
+use Rattle.root.specs.Rounded.{_⊕_}
 use Rattle.root.specs.declared.Spacings.{Spacings}
 use Rattle.cells.specs.Cells.{row}
 use Rattle.cells.proofs.Blocks.{joined-same}
 use Rattle.cells.proofs.Pointwise.{part-row}
-use Rattle.tfsf.specs.Line.{exAt, hyAt, hyAfter, lineH, mur, murEnd, exInner, exMoved, exAfter, lineE}
-use Rattle.tfsf.specs.Spans.{Spanned, Sized, leap, hSpan, eSpan, absorbed}
+use Rattle.tfsf.specs.Line.{exAt, hyAt, lineFactor, hyInner, exInner, murEnd, murFactor, hyAfter, lineH, exMoved, exAfter, lineE}
+use Rattle.tfsf.specs.Inner.Spans.{Spanned, Sized}
 
 -- ---- a span, place by place
 pub span-none : (f : ℕ → Float) (a e : ℕ) (s : List Float) → e ≤ a → Spanned f a e s s
@@ -35,24 +35,24 @@ span-more f a e s t v p h k w = record {
     here : (q : ℕ) → q ≡ e → getD (set t e v) q nan ≡ f q
     here q z = rw z (getD-set-same t e v nan (omega (arith, p .same)) ∙ w)
 
+-- the new hy by its place in the line, after all of ex
+abbrev pub hySpan : (factor : Float) → (n : ℕ) → List Float → ℕ → Float
+hySpan factor n s q = hyInner factor n s (q - n)
+
 module _ (factor : Float) (n : ℕ) (s t : List Float) (z : Sized n s) (a : ℕ) (v : Float) where
-  pub h-more : a + 1 < n → Spanned (hSpan factor n s) n (n + a) s t → v ≡ leap factor (getD t (n + a) nan) (getD t (a + 1) nan) (getD t a nan) →
-      Spanned (hSpan factor n s) n (n + (a + 1)) s (set t (n + a) v)
-  unfolding hSpan
+  pub h-more : a + 1 < n → Spanned (hySpan factor n s) n (n + a) s t → v ≡ hyInner factor n t a → Spanned (hySpan factor n s) n (n + (a + 1)) s (set t (n + a) v)
   h-more h p e =
       let next : n + a + 1 ≡ n + (a + 1) = omega arith in
       let back : a ≡ n + a - n = omega arith in
-      subst (λ (i : ℕ). Spanned (hSpan factor n s) n i s (set t (n + a) v)) next
-      (span-more (hSpan factor n s) n (n + a) s t v p (omega arith) (omega (arith, z .long))
+      subst (λ (i : ℕ). Spanned (hySpan factor n s) n i s (set t (n + a) v)) next
+      (span-more (hySpan factor n s) n (n + a) s t v p (omega arith) (omega (arith, z .long))
       (e
       ∙ rw (p .above (n + a) (omega arith), p .below (a + 1) (omega arith), p .below a (omega arith)) refl
-      ∙ ap (λ (i : ℕ). leap factor (getD s (n + a) nan) (getD s (i + 1) nan) (getD s i nan)) back))
+      ∙ ap (hyInner factor n s) back))
 
-  pub e-more : 1 ≤ a → a + 1 < n → Spanned (eSpan factor n s) 1 a s t → v ≡ leap factor (getD t a nan) (getD t (n + a) nan) (getD t (n + (a - 1)) nan) →
-      Spanned (eSpan factor n s) 1 (a + 1) s (set t a v)
-  unfolding eSpan
+  pub e-more : 1 ≤ a → a + 1 < n → Spanned (exInner factor n s) 1 a s t → v ≡ exInner factor n t a → Spanned (exInner factor n s) 1 (a + 1) s (set t a v)
   e-more l h p e =
-      span-more (eSpan factor n s) 1 a s t v p l (omega (arith, z .long))
+      span-more (exInner factor n s) 1 a s t v p l (omega (arith, z .long))
       (e ∙ rw (p .above a (omega arith), p .above (n + a) (omega arith), p .above (n + (a - 1)) (omega arith)) refl)
 
 -- ---- a list of two rows
@@ -69,25 +69,21 @@ rows-are n f g l h p q =
 
 -- ---- the magnetic half
 module _ (mu0 : Float) (s : Spacings) (n : ℕ) (l t : List Float) (z : Sized n l) (factor : Float) where
-  pub h-line : factor ≡ s .dt ⊘ (mu0 ⊗ s .dz) → Spanned (hSpan factor n l) n (n + (n - 1)) l t → t ≡ lineH mu0 s n l
-  unfolding lineH hyAfter hSpan
+  pub h-line : factor ≡ lineFactor mu0 s → Spanned (hySpan factor n l) n (n + (n - 1)) l t → t ≡ lineH mu0 s n l
+  unfolding lineH hyAfter
   h-line e p = rows-are n (exAt l) (hyAfter mu0 s n l) t (p .same ∙ z .long) (λ q k. p .below q k) (λ q k. go q (ltb (q + 1) n) refl k)
     where
-      go : (q : ℕ) (b : Bool) → ltb (q + 1) n ≡ b → q < n →
-          getD t (n + q) nan ≡ cond b (hyAt n l q ⊖ s .dt ⊘ (mu0 ⊗ s .dz) ⊗ (exAt l (q + 1) ⊖ exAt l q)) (hyAt n l q)
+      go : (q : ℕ) (b : Bool) → ltb (q + 1) n ≡ b → q < n → getD t (n + q) nan ≡ cond b (hyInner (lineFactor mu0 s) n l q) (hyAt n l q)
       go q true x k =
           let y : q + 1 < n = ltb-true (q + 1) n x in
           let back : n + q - n ≡ q = omega arith in
-          p .inside (n + q) (omega arith) (omega arith)
-          ∙ ap (λ (i : ℕ). leap factor (getD l (n + q) nan) (getD l (i + 1) nan) (getD l i nan)) back
-          ∙ ap (λ (x : Float). leap x (hyAt n l q) (exAt l (q + 1)) (exAt l q)) e
+          p .inside (n + q) (omega arith) (omega arith) ∙ ap (hyInner factor n l) back ∙ ap (λ (x : Float). hyInner x n l q) e
       go q false x k = let y : n ≤ q + 1 = ltb-false (q + 1) n x in p .above (n + q) (omega arith)
 
 -- ---- the electric half: the inner places, the two ends, the sample
 module _ (eps0 c0 : Float) (s : Spacings) (n : ℕ) (sample : Float) (l t : List Float) (z : Sized n l) (factor m v w : Float)
-    (e : factor ≡ s .dt ⊘ (eps0 ⊗ s .dz)) (f : m ≡ mur c0 s) (p : Spanned (eSpan factor n l) 1 (n - 1) l t)
-    (low : v ≡ absorbed m (getD l 0 nan) (getD l 1 nan) (getD t 1 nan))
-    (high : w ≡ absorbed m (getD l (n - 1) nan) (getD l (n - 2) nan) (getD (set t 0 v) (n - 2) nan)) where
+    (e : factor ≡ lineFactor eps0 s) (f : m ≡ murFactor c0 s) (p : Spanned (exInner factor n l) 1 (n - 1) l t)
+    (low : v ≡ murEnd m (exAt l 0) (exAt l 1) (exAt t 1)) (high : w ≡ murEnd m (exAt l (n - 1)) (exAt l (n - 2)) (exAt (set t 0 v) (n - 2))) where
   ended : List Float
   ended = set (set t 0 v) (n - 1) w
 
@@ -98,11 +94,13 @@ module _ (eps0 c0 : Float) (s : Spacings) (n : ℕ) (sample : Float) (l t : List
   unfolding ended
   other q x y = getD-set-other (set t 0 v) (n - 1) q w nan y ∙ getD-set-other t 0 q v nan x
 
-  inner : (q : ℕ) → 1 ≤ q → q < n - 1 → getD t q nan ≡ exInner eps0 s n l q
-  unfolding eSpan
-  inner q x y = p .inside q x y ∙ ap (λ (x : Float). leap x (exAt l q) (hyAt n l q) (hyAt n l (q - 1))) e
+  abbrev new : ℕ → Float
+  new = exInner (lineFactor eps0 s) n l
 
-  first : getD ended 0 nan ≡ murEnd c0 s (exAt l 0) (exAt l 1) (exInner eps0 s n l 1)
+  inner : (q : ℕ) → 1 ≤ q → q < n - 1 → getD t q nan ≡ new q
+  inner q x y = p .inside q x y ∙ ap (λ (x : Float). exInner x n l q) e
+
+  first : getD ended 0 nan ≡ murEnd (murFactor c0 s) (exAt l 0) (exAt l 1) (new 1)
   unfolding ended
   first =
       let big = z .low in
@@ -111,7 +109,7 @@ module _ (eps0 c0 : Float) (s : Spacings) (n : ℕ) (sample : Float) (l t : List
       ∙ low
       ∙ rw (f, inner 1 (omega arith) (omega arith)) refl
 
-  last : getD ended (n - 1) nan ≡ murEnd c0 s (exAt l (n - 1)) (exAt l (n - 2)) (exInner eps0 s n l (n - 2))
+  last : getD ended (n - 1) nan ≡ murEnd (murFactor c0 s) (exAt l (n - 1)) (exAt l (n - 2)) (new (n - 2))
   unfolding ended
   last =
       let big = z .low in
@@ -124,8 +122,8 @@ module _ (eps0 c0 : Float) (s : Spacings) (n : ℕ) (sample : Float) (l t : List
   moved q k = go (eqb q 0) refl (eqb q (n - 1)) refl
     where
       go : (x : Bool) → eqb q 0 ≡ x → (y : Bool) → eqb q (n - 1) ≡ y →
-          getD ended q nan ≡ cond x (murEnd c0 s (exAt l 0) (exAt l 1) (exInner eps0 s n l 1))
-          (cond y (murEnd c0 s (exAt l (n - 1)) (exAt l (n - 2)) (exInner eps0 s n l (n - 2))) (exInner eps0 s n l q))
+          getD ended q nan ≡ cond x (murEnd (murFactor c0 s) (exAt l 0) (exAt l 1) (new 1))
+          (cond y (murEnd (murFactor c0 s) (exAt l (n - 1)) (exAt l (n - 2)) (new (n - 2))) (new q))
       go true x y i = let at : q ≡ 0 = eqb-true q 0 x in rw at first
       go false x true i = let at : q ≡ n - 1 = eqb-true q (n - 1) i in rw at last
       go false x false i =

@@ -1,31 +1,31 @@
--- The eight faces: what the loop over each may lean on, and that it comes to the correction that the definitions name. Assumes nothing.
+-- The faces: what the loop over each may lean on, and that it comes to the correction that the definitions name. Assumes nothing.
 use Prim.Native.Nat.{ℕ, _+_, _-_, _*_, _≤_, _<_}
 use native.Mathlib.Nat.{one-mul, zero-mul, mul-comm}
 use native.Mathlib.Omega.{arith}
-use mathlib.Core.Path.{_≡_, refl, sym, ap, _∙_, subst}
+use mathlib.Core.Path.{_≡_, sym, ap, _∙_, subst}
 use mathlib.Core.Bool.{Bool, true, false, cond, _&&_}
 use mathlib.Core.List.{List}
 use lib.Dec.{leb, ltb}
 use lib.ListN.{length, getD}
 use lib.Ieee.{Float, nan}
 use borrow.Author.Tests.{leb-true, ltb-true}
-use Rattle.root.specs.Rounded.{_⊗_, _⊘_}
+use Rattle.root.specs.declared.Spacings.{Spacings}
 use Rattle.cells.specs.declared.IndexBox.{IndexBox}
 use Rattle.cells.specs.Cells.{cellIndex}
-use Rattle.cells.specs.Blocks.{on, within}
-use Rattle.cells.specs.Box.{inBox}
+use Rattle.cells.specs.Reading.{block-end}
+use Rattle.cells.specs.Inner.Blocks.{on}
 use Rattle.cells.proofs.Pointwise.{cells-same, nested-place}
 use Rattle.grid.specs.declared.Region.{Region}
 use Rattle.grid.specs.declared.Record.{Record}
 use Rattle.grid.specs.Fault.{cornersFit}
-use Rattle.grid.specs.Stores.{numberAt, cells}
+use Rattle.grid.specs.Stores.{cells, lineLength}
 use Rattle.grid.proofs.Tests.{and-left, and-right}
-use Rattle.tfsf.specs.declared.corrections.Half.{Half}
-use Rattle.tfsf.specs.declared.corrections.Face.{Face}
-use Rattle.tfsf.specs.Line.{pad, lineLength, hyAt}
-use Rattle.tfsf.specs.Corrections.{faced, sideFaces, upperFace, exInc, factorH, denominatorE, hyLower, hyUpper, hzLower, hzUpper, correctH, exLower, exUpper, ezLower, ezUpper, correctE}
-use Rattle.tfsf.specs.Faces.{addBox, turned, factorOf, denominatorOf, addendH, addendE, addend, addends, faceDone, Inside, Fits, Corners, Ready, Low, halfEnd, zBox, yBox, xBox, halfOf, hyLowerFace, hyUpperFace, hzLowerFace, hzUpperFace, exLowerFace, exUpperFace, ezLowerFace, ezUpperFace}
-use Rattle.tfsf.proofs.Adding.{box-added}
+use Rattle.tfsf.specs.declared.corrections.Corrected.{Corrected}
+use Rattle.tfsf.specs.declared.faces.Face.{Face}
+use Rattle.tfsf.specs.Line.{exAt, hyAt}
+use Rattle.tfsf.specs.Corrections.{sideFaces, upperFace, halfEnd, zPlane, yPlane, xPlane, hyLower, hyUpper, hzLower, hzUpper, exLower, exUpper, ezLower, ezUpper, addedH, addedE, cellNumber, correctFace, correctH, correctE}
+use Rattle.tfsf.specs.Inner.Faces.{addBox, addend, addends, faceDone, corrected, Inside, FaceFits, Corners, FacesReady, Low}
+use Rattle.tfsf.proofs.Adding.{face-added}
 
 -- ---- the region's corners
 pub corners-of : (g : Region) (nx ny nz : ℕ) → cornersFit g nx ny nz ≡ true → Corners g nx ny nz
@@ -50,268 +50,206 @@ corners-of g nx ny nz e =
       z = ltb-true (g .k1) nz (and-right (i && x && j && y && k) z e);
     }
 
-pub low-of : {r : Record} {media line s : List Float} → Ready r media line s → Low (r .region)
+pub low-of : {r : Record} {media line s : List Float} → FacesReady r media line s → Low (r .region)
 low-of {r} p =
     let q = p .corners in
     let t = p .sound in
-    record { i = omega arith; j = omega arith; k = omega arith; x = omega arith; z = omega arith }
+    record { i0 = omega arith; i1 = omega arith; j0 = omega arith; j1 = omega arith; k0 = omega arith; k1 = omega arith }
 
 -- ---- a face from what its parts come to
 abbrev face : Bool → ℕ → IndexBox → Float → Bool → ℕ → Face
-face there at b d minus off = record { there = there; at = at; b = b; d = d; minus = minus; off = off }
+face there c b d minus o = record { there = there; component = c; b = b; d = d; minus = minus; offset = o }
 
 pub face-same : {t u : Bool} {a o : ℕ} {b c : IndexBox} {d : Float} {m : Bool} → t ≡ u → b ≡ c → face t a b d m o ≡ face u a c d m o
 face-same {t} {u} {a} {o} {b} {c} {d} {m} p q = ap (λ (x : Bool). face x a b d m o) p ∙ ap (λ (x : IndexBox). face u a x d m o) q
 
--- ---- boxes that lie in the grid
-module _ (g : Region) (nx ny nz : ℕ) (c : Corners g nx ny nz) where
-  half-high : (t : Bool) (last n : ℕ) → last < n → halfEnd t last ≤ n
-  half-high true last n h = omega arith
-  half-high false last n h = omega arith
+-- ---- the faces lie in the grid
+abbrev pub Fit : Record → Face → Type 0
+Fit r f = Inside (f .b) (r .nx) (r .ny) (r .nz) × (f .component < 3) × (f .offset ≤ 25)
 
-  half-low : (t : Bool) (a last : ℕ) → a ≤ last → a ≤ halfEnd t last
-  half-low true a last h = h
-  half-low false a last h = omega arith
+half-high : (t : Bool) (last n : ℕ) → last < n → halfEnd t last ≤ n
+half-high true last n h = omega arith
+half-high false last n h = omega arith
 
-  z-inside : (a e : ℕ) → a ≤ e → e ≤ nz → Inside (zBox g a e) nx ny nz
-  unfolding zBox
-  z-inside a e h k = record {
+half-low : (t : Bool) (a last : ℕ) → a ≤ last → a ≤ halfEnd t last
+half-low true a last h = h
+half-low false a last h = omega arith
+
+module _ (r : Record) (c : Corners (r .region) (r .nx) (r .ny) (r .nz)) where
+  abbrev g : Region
+  g = r .region
+
+  z-inside : (k : ℕ) → k < r .nz → Inside (zPlane g k) (r .nx) (r .ny) (r .nz)
+  unfolding zPlane
+  z-inside k h = record {
     i = half-low (sideFaces (g .kind)) (g .i0) (g .i1) (c .i);
     j = omega arith;
-    k = h;
-    x = half-high (sideFaces (g .kind)) (g .i1) nx (c .x);
-    y = omega arith;
-    z = k;
-  }
-
-  y-inside : (a e : ℕ) → a ≤ e → e ≤ ny → Inside (yBox g a e) nx ny nz
-  unfolding yBox
-  y-inside a e h k = record {
-    i = half-low (sideFaces (g .kind)) (g .i0) (g .i1) (c .i);
-    j = h;
     k = omega arith;
-    x = half-high (sideFaces (g .kind)) (g .i1) nx (c .x);
-    y = k;
+    x = half-high (sideFaces (g .kind)) (g .i1) (r .nx) (c .x);
+    y = omega arith;
     z = omega arith;
   }
 
-  x-inside : (a : ℕ) → a < nx → Inside (xBox g a) nx ny nz
-  unfolding xBox
-  x-inside a h = record {
+  y-inside : (j : ℕ) → j < r .ny → Inside (yPlane g j) (r .nx) (r .ny) (r .nz)
+  unfolding yPlane
+  y-inside j h = record {
+    i = half-low (sideFaces (g .kind)) (g .i0) (g .i1) (c .i);
+    j = omega arith;
+    k = omega arith;
+    x = half-high (sideFaces (g .kind)) (g .i1) (r .nx) (c .x);
+    y = omega arith;
+    z = omega arith;
+  }
+
+  x-inside : (i : ℕ) → i < r .nx → Inside (xPlane g i) (r .nx) (r .ny) (r .nz)
+  unfolding xPlane
+  x-inside i h = record {
     i = omega arith;
     j = omega arith;
     k = half-low (upperFace (g .kind)) (g .k0) (g .k1) (c .k);
     x = omega arith;
     y = omega arith;
-    z = half-high (upperFace (g .kind)) (g .k1) nz (c .z);
+    z = half-high (upperFace (g .kind)) (g .k1) (r .nz) (c .z);
   }
 
+  pub hy-lower-fit : Fit r (hyLower g (r .spacings))
+  unfolding hyLower
+  hy-lower-fit = (z-inside (g .k0 - 1) (omega arith), omega arith, omega arith)
+
+  pub hy-upper-fit : Fit r (hyUpper g (r .spacings))
+  unfolding hyUpper
+  hy-upper-fit = (z-inside (g .k1) (omega arith), omega arith, omega arith)
+
+  pub hz-lower-fit : Fit r (hzLower g (r .spacings))
+  unfolding hzLower
+  hz-lower-fit = (y-inside (g .j0 - 1) (omega arith), omega arith, omega arith)
+
+  pub hz-upper-fit : Fit r (hzUpper g (r .spacings))
+  unfolding hzUpper
+  hz-upper-fit = (y-inside (g .j1) (omega arith), omega arith, omega arith)
+
+  pub ex-lower-fit : Fit r (exLower g (r .spacings))
+  unfolding exLower
+  ex-lower-fit = (z-inside (g .k0) (omega arith), omega arith, omega arith)
+
+  pub ex-upper-fit : Fit r (exUpper g (r .spacings))
+  unfolding exUpper
+  ex-upper-fit = (z-inside (g .k1) (omega arith), omega arith, omega arith)
+
+  pub ez-lower-fit : Fit r (ezLower g (r .spacings))
+  unfolding ezLower
+  ez-lower-fit = (x-inside (g .i0) (omega arith), omega arith, omega arith)
+
+  pub ez-upper-fit : Fit r (ezUpper g (r .spacings))
+  unfolding ezUpper
+  ez-upper-fit = (x-inside (g .i1) (omega arith), omega arith, omega arith)
+
 -- ---- what the loops lean on
-pub fits-kept : {w : Half} {f : Face} {media : List Float} (s t : List Float) → length t ≡ length s → Fits w f media s → Fits w f media t
+pub fits-kept : {w : Corrected} {f : Face} {media : List Float} (s t : List Float) → length t ≡ length s → FaceFits w f media s → FaceFits w f media t
 fits-kept s t e p = record { box = p .box; count = p .count; plane = p .plane; few = p .few; stuff = p .stuff; room = omega (arith, p .room) }
 
-abbrev pub Asked : Bool → Float → Record → Face → (media line t : List Float) → Type 0
-Asked b unit r f media line t = Fits (halfOf b unit r) f media t × (f .off + r .nz ≤ length line)
+abbrev pub Asked : Corrected → Face → (media line t : List Float) → Type 0
+Asked w f media line t = FaceFits w f media t × (w .incident + f .offset + w .nz ≤ length line)
 
-module _ (b : Bool) (unit : Float) (r : Record) (media line s t : List Float) (p : Ready r media line s) (e : length t ≡ length s) where
-  asked : (f g : Face) → f ≡ g → Inside (g .b) (r .nx) (r .ny) (r .nz) → g .at ≤ 2 * cells r → g .off ≤ r .nz + 72 → Asked b unit r f media line t
-  asked f g w q l o =
-      let y = p .sound in
-      let same : r .ny * r .nx ≡ r .nx * r .ny = mul-comm (r .ny) (r .nx) in
-      subst (λ (f : Face). Asked b unit r f media line t) (sym w) (
-        record {
-          box = q;
-          count = cells-same (r .nx) (r .ny) (r .nz);
-          plane = omega (arith, same, y .plane);
-          few = y .cells;
-          stuff = p .stuff;
-          room = omega (arith, e, p .field, l);
-        },
-        omega (arith, p .wave, o),
-      )
+pub asked : (b : Bool) (unit : Float) (o : ℕ) (r : Record) (media line s t : List Float) (f g : Face) → FacesReady r media line s → length t ≡ length s →
+    o ≤ lineLength (r .nz) → f ≡ g → Fit r g → Asked (corrected b unit o r) f media line t
+asked b unit o r media line s t f g p e l w q =
+    let y = p .sound in
+    let same : r .ny * r .nx ≡ r .nx * r .ny = mul-comm (r .ny) (r .nx) in
+    subst (λ (f : Face). Asked (corrected b unit o r) f media line t) (sym w) (
+      record {
+        box = q .0;
+        count = cells-same (r .nx) (r .ny) (r .nz);
+        plane = omega (arith, same, y .plane);
+        few = y .cells;
+        stuff = p .stuff;
+        room = omega (arith, e, p .field, block-end (g .component) 3 (cells r) (q .1));
+      },
+      omega (arith, p .wave, l, q .2),
+    )
 
-  pub hy-lower-asked : (f : Face) → f ≡ hyLowerFace (r .region) (r .spacings) (cells r) → Asked b unit r f media line t
-  unfolding hyLowerFace
-  hy-lower-asked f w =
-      let c = p .corners in
-      asked f _ w (z-inside (r .region) (r .nx) (r .ny) (r .nz) c (r .region .k0 - 1) (r .region .k0) (omega arith) (omega arith)) (omega arith) (omega arith)
+-- ---- a face done
+module _ (w : Corrected) (f : Face) (media line s : List Float) where
+  abbrev boxed : List Float
+  boxed = on (f .component * w .n) (w .nz * (w .ny * w .nx)) (addBox (w .nx) (w .ny) (w .nz) (f .b) (addends w f media line)) s
 
-  pub hy-upper-asked : (f : Face) → f ≡ hyUpperFace (r .region) (r .spacings) (cells r) → Asked b unit r f media line t
-  unfolding hyUpperFace
-  hy-upper-asked f w =
-      let c = p .corners in
-      asked f _ w (z-inside (r .region) (r .nx) (r .ny) (r .nz) c (r .region .k1) (r .region .k1 + 1) (omega arith) (omega arith)) (omega arith) (omega arith)
+  pub is-there : (t : List Float) → f .there ≡ true → t ≡ boxed → t ≡ faceDone w f media line s
+  unfolding faceDone
+  is-there t h e = e ∙ ap (λ (b : Bool). cond b boxed s) (sym h)
 
-  pub hz-lower-asked : (f : Face) → f ≡ hzLowerFace (r .region) (r .spacings) (cells r) → Asked b unit r f media line t
-  unfolding hzLowerFace
-  hz-lower-asked f w =
-      let c = p .corners in
-      asked f _ w (y-inside (r .region) (r .nx) (r .ny) (r .nz) c (r .region .j0 - 1) (r .region .j0) (omega arith) (omega arith)) (omega arith) (omega arith)
-
-  pub hz-upper-asked : (f : Face) → f ≡ hzUpperFace (r .region) (r .spacings) (cells r) → Asked b unit r f media line t
-  unfolding hzUpperFace
-  hz-upper-asked f w =
-      let c = p .corners in
-      asked f _ w (y-inside (r .region) (r .nx) (r .ny) (r .nz) c (r .region .j1) (r .region .j1 + 1) (omega arith) (omega arith)) (omega arith) (omega arith)
-
-  pub ex-lower-asked : (f : Face) → f ≡ exLowerFace (r .region) (r .spacings) (lineLength (r .nz)) → Asked b unit r f media line t
-  unfolding exLowerFace
-  ex-lower-asked f w =
-      let c = p .corners in
-      asked f _ w (z-inside (r .region) (r .nx) (r .ny) (r .nz) c (r .region .k0) (r .region .k0 + 1) (omega arith) (omega arith)) (omega arith) (omega arith)
-
-  pub ex-upper-asked : (f : Face) → f ≡ exUpperFace (r .region) (r .spacings) (lineLength (r .nz)) → Asked b unit r f media line t
-  unfolding exUpperFace
-  ex-upper-asked f w =
-      let c = p .corners in
-      asked f _ w (z-inside (r .region) (r .nx) (r .ny) (r .nz) c (r .region .k1) (r .region .k1 + 1) (omega arith) (omega arith)) (omega arith) (omega arith)
-
-  pub ez-lower-asked : (f : Face) → f ≡ ezLowerFace (r .region) (r .spacings) (cells r) (lineLength (r .nz)) → Asked b unit r f media line t
-  unfolding ezLowerFace
-  ez-lower-asked f w =
-      let c = p .corners in
-      asked f _ w (x-inside (r .region) (r .nx) (r .ny) (r .nz) c (r .region .i0) (omega arith)) (omega arith) (omega arith)
-
-  pub ez-upper-asked : (f : Face) → f ≡ ezUpperFace (r .region) (r .spacings) (cells r) (lineLength (r .nz)) → Asked b unit r f media line t
-  unfolding ezUpperFace
-  ez-upper-asked f w =
-      let c = p .corners in
-      asked f _ w (x-inside (r .region) (r .nx) (r .ny) (r .nz) c (r .region .i1) (omega arith)) (omega arith) (omega arith)
-
--- ---- a face's numbers, and the face done
-box-k : (b : IndexBox) (i j k : ℕ) → inBox b i j k ≡ true → (b .k0 ≤ k) × (k < b .k1)
-unfolding inBox
-box-k b i j k e =
-    let x = within (b .i0) (b .i1) i in
-    let y = within (b .j0) (b .j1) j in
-    let low = leb (b .k0) k in
-    let high = ltb k (b .k1) in
-    let h = and-left (low && high) y (and-left (low && high && y) x e) in
-    (leb-true (b .k0) k (and-left low high h), ltb-true k (b .k1) (and-right low high h))
+  pub not-there : f .there ≡ false → s ≡ faceDone w f media line s
+  unfolding faceDone
+  not-there h = ap (λ (b : Bool). cond b boxed s) (sym h)
 
 cell-place : (r : Record) (i j k : ℕ) → k * (r .ny * r .nx) + j * r .nx + i ≡ cellIndex (r .nx) (r .ny) i j k
 cell-place r i j k = omega (arith, nested-place (r .nx) (r .ny) i j k)
 
-h-agrees : (mu0 : Float) (r : Record) (media line : List Float) (f : Face) (i j k a : ℕ) → f .off + k ≡ a + pad →
-    addends (halfOf true mu0 r) f media line i j k ≡ turned (f .minus) (factorH mu0 r media line (f .d) i j k) ⊗ exInc line a
-unfolding addend addendH
-h-agrees mu0 r media line f i j k a e =
+h-agrees : (mu0 : Float) (r : Record) (media line : List Float) (f : Face) (i j k : ℕ) →
+    addends (corrected true mu0 0 r) f media line i j k ≡ addedH mu0 (r .spacings .dt) f (cellNumber r media 1 i j k) (exAt line (k + f .offset))
+unfolding addend
+h-agrees mu0 r media line f i j k =
     let m : cells r + (k * (r .ny * r .nx) + j * r .nx + i) ≡ 1 * cells r + cellIndex (r .nx) (r .ny) i j k = omega (arith, cell-place r i j k, one-mul (cells r)) in
-    ap (λ (q : ℕ). turned (f .minus) (factorOf mu0 (r .spacings .dt) (f .d) (getD media q nan)) ⊗ getD line (f .off + k) nan) m
-    ∙ ap (λ (q : ℕ). turned (f .minus) (factorH mu0 r media line (f .d) i j k) ⊗ getD line q nan) e
+    let e : 0 + f .offset + k ≡ k + f .offset = omega arith in
+    ap (λ (q : ℕ). addedH mu0 (r .spacings .dt) f (getD media q nan) (getD line (0 + f .offset + k) nan)) m
+    ∙ ap (λ (q : ℕ). addedH mu0 (r .spacings .dt) f (cellNumber r media 1 i j k) (getD line q nan)) e
 
-e-agrees : (eps0 : Float) (r : Record) (media line : List Float) (f : Face) (i j k a : ℕ) → f .off + k ≡ lineLength (r .nz) + a →
-    addends (halfOf false eps0 r) f media line i j k ≡ turned (f .minus) (hyAt (lineLength (r .nz)) line a ⊘ denominatorE eps0 r media line (f .d) i j k)
-unfolding addend addendE
-e-agrees eps0 r media line f i j k a e =
+e-agrees : (eps0 : Float) (r : Record) (media line : List Float) (f : Face) (i j k : ℕ) →
+    addends (corrected false eps0 (lineLength (r .nz)) r) f media line i j k ≡
+    addedE eps0 (r .spacings .dt) f (cellNumber r media 0 i j k) (cellNumber r media 2 i j k) (hyAt (lineLength (r .nz)) line (k + f .offset))
+unfolding addend
+e-agrees eps0 r media line f i j k =
     let m = cell-place r i j k in
     let z : cellIndex (r .nx) (r .ny) i j k ≡ 0 * cells r + cellIndex (r .nx) (r .ny) i j k = omega (arith, zero-mul (cells r)) in
-    ap (λ (q : ℕ). turned (f .minus) (getD line (f .off + k) nan ⊘ denominatorOf eps0 (r .spacings .dt) (f .d) (getD media q nan) (getD media (2 * cells r + q) nan))) m
-    ∙ ap (λ (q : ℕ). turned (f .minus) (getD line (f .off + k) nan ⊘ denominatorOf eps0 (r .spacings .dt) (f .d) (getD media q nan) (numberAt media (cells r) 2 (cellIndex (r .nx) (r .ny) i j k)))) z
-    ∙ ap (λ (q : ℕ). turned (f .minus) (getD line q nan ⊘ denominatorE eps0 r media line (f .d) i j k)) e
-
-module _ (b : Bool) (unit : Float) (r : Record) (media line : List Float) (s : List Float) (long : length s ≡ 3 * cells r) where
-  done : (f : Face) (c : ℕ) (g : ℕ → ℕ → ℕ → Float) → c < 3 → f .at ≡ c * cells r →
-      (f .there ≡ true → (i j k : ℕ) → inBox (f .b) i j k ≡ true → addends (halfOf b unit r) f media line i j k ≡ g i j k) →
-      faceDone (halfOf b unit r) f media line s ≡ faced (f .there) r c (f .b) g s
-  unfolding faceDone
-  done f c g small at e = go (f .there) e
-    where
-      go : (t : Bool) → (t ≡ true → (i j k : ℕ) → inBox (f .b) i j k ≡ true → addends (halfOf b unit r) f media line i j k ≡ g i j k) →
-          cond t (on (f .at) (r .nz * (r .ny * r .nx)) (addBox (r .nx) (r .ny) (r .nz) (f .b) (addends (halfOf b unit r) f media line)) s) s ≡ faced t r c (f .b) g s
-      go true h =
-          ap (λ (q : ℕ). on q (r .nz * (r .ny * r .nx)) (addBox (r .nx) (r .ny) (r .nz) (f .b) (addends (halfOf b unit r) f media line)) s) at
-          ∙ box-added r c (f .b) (addends (halfOf b unit r) f media line) g s small long (h refl)
-      go false h = refl
-
-module _ (mu0 : Float) (r : Record) (media line : List Float) (s : List Float) (long : length s ≡ 3 * cells r) where
-  hy-lower-done : faceDone (halfOf true mu0 r) (hyLowerFace (r .region) (r .spacings) (cells r)) media line s ≡ hyLower mu0 r media line s
-  unfolding hyLowerFace hyLower zBox
-  hy-lower-done =
-      let f = hyLowerFace (r .region) (r .spacings) (cells r) in
-      done true mu0 r media line s long f 1 _ (omega arith) (sym (one-mul (cells r))) (λ t i j k q.
-      let y : 1 ≤ r .region .k0 = leb-true _ _ t in
-      let z = box-k (f .b) i j k q in
-      h-agrees mu0 r media line f i j k (r .region .k0) (omega (arith, y, z .0, z .1)))
-
-  hy-upper-done : faceDone (halfOf true mu0 r) (hyUpperFace (r .region) (r .spacings) (cells r)) media line s ≡ hyUpper mu0 r media line s
-  unfolding hyUpperFace hyUpper zBox
-  hy-upper-done =
-      let f = hyUpperFace (r .region) (r .spacings) (cells r) in
-      done true mu0 r media line s long f 1 _ (omega arith) (sym (one-mul (cells r))) (λ t i j k q.
-      let z = box-k (f .b) i j k q in
-      h-agrees mu0 r media line f i j k (r .region .k1) (omega (arith, z .0, z .1)))
-
-  hz-lower-done : faceDone (halfOf true mu0 r) (hzLowerFace (r .region) (r .spacings) (cells r)) media line s ≡ hzLower mu0 r media line s
-  unfolding hzLowerFace hzLower yBox
-  hz-lower-done =
-      let f = hzLowerFace (r .region) (r .spacings) (cells r) in
-      done true mu0 r media line s long f 2 _ (omega arith) refl (λ t i j k q. h-agrees mu0 r media line f i j k k (omega arith))
-
-  hz-upper-done : faceDone (halfOf true mu0 r) (hzUpperFace (r .region) (r .spacings) (cells r)) media line s ≡ hzUpper mu0 r media line s
-  unfolding hzUpperFace hzUpper yBox
-  hz-upper-done =
-      let f = hzUpperFace (r .region) (r .spacings) (cells r) in
-      done true mu0 r media line s long f 2 _ (omega arith) refl (λ t i j k q. h-agrees mu0 r media line f i j k k (omega arith))
-
-module _ (eps0 : Float) (r : Record) (media line : List Float) (s : List Float) (long : length s ≡ 3 * cells r) where
-  ex-lower-done : faceDone (halfOf false eps0 r) (exLowerFace (r .region) (r .spacings) (lineLength (r .nz))) media line s ≡ exLower eps0 r media line s
-  unfolding exLowerFace exLower zBox
-  ex-lower-done =
-      let f = exLowerFace (r .region) (r .spacings) (lineLength (r .nz)) in
-      done false eps0 r media line s long f 0 _ (omega arith) (sym (zero-mul (cells r))) (λ t i j k q.
-      let z = box-k (f .b) i j k q in
-      e-agrees eps0 r media line f i j k (r .region .k0 + pad - 1) (omega (arith, z .0, z .1)))
-
-  ex-upper-done : faceDone (halfOf false eps0 r) (exUpperFace (r .region) (r .spacings) (lineLength (r .nz))) media line s ≡ exUpper eps0 r media line s
-  unfolding exUpperFace exUpper zBox
-  ex-upper-done =
-      let f = exUpperFace (r .region) (r .spacings) (lineLength (r .nz)) in
-      done false eps0 r media line s long f 0 _ (omega arith) (sym (zero-mul (cells r))) (λ t i j k q.
-      let z = box-k (f .b) i j k q in
-      e-agrees eps0 r media line f i j k (r .region .k1 + pad) (omega (arith, z .0, z .1)))
-
-  ez-lower-done : faceDone (halfOf false eps0 r) (ezLowerFace (r .region) (r .spacings) (cells r) (lineLength (r .nz))) media line s ≡ ezLower eps0 r media line s
-  unfolding ezLowerFace ezLower xBox
-  ez-lower-done =
-      let f = ezLowerFace (r .region) (r .spacings) (cells r) (lineLength (r .nz)) in
-      done false eps0 r media line s long f 2 _ (omega arith) refl (λ t i j k q. e-agrees eps0 r media line f i j k (k + pad) (omega arith))
-
-  ez-upper-done : faceDone (halfOf false eps0 r) (ezUpperFace (r .region) (r .spacings) (cells r) (lineLength (r .nz))) media line s ≡ ezUpper eps0 r media line s
-  unfolding ezUpperFace ezUpper xBox
-  ez-upper-done =
-      let f = ezUpperFace (r .region) (r .spacings) (cells r) (lineLength (r .nz)) in
-      done false eps0 r media line s long f 2 _ (omega arith) refl (λ t i j k q. e-agrees eps0 r media line f i j k (k + pad) (omega arith))
+    let e : lineLength (r .nz) + f .offset + k ≡ lineLength (r .nz) + (k + f .offset) = omega arith in
+    ap (λ (q : ℕ). addedE eps0 (r .spacings .dt) f (getD media q nan) (getD media (2 * cells r + q) nan) (getD line (lineLength (r .nz) + f .offset + k) nan)) m
+    ∙ ap (λ (q : ℕ). addedE eps0 (r .spacings .dt) f (getD media q nan) (cellNumber r media 2 i j k) (getD line (lineLength (r .nz) + f .offset + k) nan)) z
+    ∙ ap (λ (q : ℕ). addedE eps0 (r .spacings .dt) f (cellNumber r media 0 i j k) (cellNumber r media 2 i j k) (getD line q nan)) e
 
 -- ---- the faces one after another
-module _ (unit : Float) (r : Record) (media line : List Float) (a b c d e : List Float) (p : Ready r media line a)
-    (first : length b ≡ length a) (second : length c ≡ length b) (third : length d ≡ length c) (f g h i : Face) where
-  pub corrected-h : f ≡ hyLowerFace (r .region) (r .spacings) (cells r) → g ≡ hyUpperFace (r .region) (r .spacings) (cells r) →
-      h ≡ hzLowerFace (r .region) (r .spacings) (cells r) → i ≡ hzUpperFace (r .region) (r .spacings) (cells r) →
-      b ≡ faceDone (halfOf true unit r) f media line a → c ≡ faceDone (halfOf true unit r) g media line b →
-      d ≡ faceDone (halfOf true unit r) h media line c → e ≡ faceDone (halfOf true unit r) i media line d → e ≡ correctH unit r media line a
-  unfolding correctH
-  corrected-h fs gs hs is bs cs ds es =
-      let l = p .field in
-      let w = halfOf true unit r in
-      es
-      ∙ ap (λ (x : Face). faceDone w x media line d) is
-      ∙ hz-upper-done unit r media line d (omega arith)
-      ∙ ap (hzUpper unit r media line) (ds ∙ ap (λ (x : Face). faceDone w x media line c) hs ∙ hz-lower-done unit r media line c (omega arith)
-      ∙ ap (hzLower unit r media line) (cs ∙ ap (λ (x : Face). faceDone w x media line b) gs ∙ hy-upper-done unit r media line b (omega arith)
-      ∙ ap (hyUpper unit r media line) (bs ∙ ap (λ (x : Face). faceDone w x media line a) fs ∙ hy-lower-done unit r media line a l)))
+module _ (b : Bool) (unit : Float) (o : ℕ) (r : Record) (media line : List Float) (added : Face → ℕ → ℕ → ℕ → Float)
+    (agrees : (f : Face) (i j k : ℕ) → addends (corrected b unit o r) f media line i j k ≡ added f i j k) where
+  -- the loops took s to t over a face that comes to g
+  abbrev Passed : (f g : Face) (s t : List Float) → Type 0
+  Passed f g s t = (f ≡ g) × Fit r g × (t ≡ faceDone (corrected b unit o r) f media line s)
 
-  pub corrected-e : f ≡ exLowerFace (r .region) (r .spacings) (lineLength (r .nz)) → g ≡ exUpperFace (r .region) (r .spacings) (lineLength (r .nz)) →
-      h ≡ ezLowerFace (r .region) (r .spacings) (cells r) (lineLength (r .nz)) → i ≡ ezUpperFace (r .region) (r .spacings) (cells r) (lineLength (r .nz)) →
-      b ≡ faceDone (halfOf false unit r) f media line a → c ≡ faceDone (halfOf false unit r) g media line b →
-      d ≡ faceDone (halfOf false unit r) h media line c → e ≡ faceDone (halfOf false unit r) i media line d → e ≡ correctE unit r media line a
+  passed : (f g : Face) (s t : List Float) → length s ≡ 3 * cells r → Passed f g s t → t ≡ correctFace r g (added g) s
+  unfolding faceDone
+  passed f g s t l p =
+      let w = corrected b unit o r in
+      p .2 ∙ ap (λ (x : Face). faceDone w x media line s) (p .0) ∙ face-added r g (addends w g media line) (added g) s (p .1 .1) l (agrees g)
+
+  four : (f1 f2 f3 f4 g1 g2 g3 g4 : Face) (s0 s1 s2 s3 s4 : List Float) →
+      length s0 ≡ 3 * cells r → length s1 ≡ length s0 → length s2 ≡ length s1 → length s3 ≡ length s2 →
+      Passed f1 g1 s0 s1 → Passed f2 g2 s1 s2 → Passed f3 g3 s2 s3 → Passed f4 g4 s3 s4 →
+      s4 ≡ correctFace r g4 (added g4) (correctFace r g3 (added g3) (correctFace r g2 (added g2) (correctFace r g1 (added g1) s0)))
+  four f1 f2 f3 f4 g1 g2 g3 g4 s0 s1 s2 s3 s4 l l1 l2 l3 p1 p2 p3 p4 =
+      passed f4 g4 s3 s4 (omega arith) p4
+      ∙ ap (correctFace r g4 (added g4)) (passed f3 g3 s2 s3 (omega arith) p3
+      ∙ ap (correctFace r g3 (added g3)) (passed f2 g2 s1 s2 (omega arith) p2
+      ∙ ap (correctFace r g2 (added g2)) (passed f1 g1 s0 s1 l p1)))
+
+module _ (unit : Float) (r : Record) (media line : List Float) (f1 f2 f3 f4 : Face) (s0 s1 s2 s3 s4 : List Float) (p : FacesReady r media line s0)
+    (l1 : length s1 ≡ length s0) (l2 : length s2 ≡ length s1) (l3 : length s3 ≡ length s2) where
+  abbrev Done : Corrected → Type 0
+  Done w =
+      (s1 ≡ faceDone w f1 media line s0) × (s2 ≡ faceDone w f2 media line s1) × (s3 ≡ faceDone w f3 media line s2) × (s4 ≡ faceDone w f4 media line s3)
+
+  abbrev Are : (g1 g2 g3 g4 : Region → Spacings → Face) → Type 0
+  Are g1 g2 g3 g4 =
+      let g = r .region in
+      let s = r .spacings in
+      (f1 ≡ g1 g s) × (f2 ≡ g2 g s) × (f3 ≡ g3 g s) × (f4 ≡ g4 g s)
+
+  pub corrected-h : Are hyLower hyUpper hzLower hzUpper → Done (corrected true unit 0 r) → s4 ≡ correctH unit r media line s0
+  unfolding correctH
+  corrected-h a d =
+      let c = p .corners in
+      four true unit 0 r media line _ (h-agrees unit r media line) f1 f2 f3 f4 _ _ _ _ s0 s1 s2 s3 s4 (p .field) l1 l2 l3
+      (a .0, hy-lower-fit r c, d .0) (a .1, hy-upper-fit r c, d .1) (a .2, hz-lower-fit r c, d .2) (a .3, hz-upper-fit r c, d .3)
+
+  pub corrected-e : Are exLower exUpper ezLower ezUpper → Done (corrected false unit (lineLength (r .nz)) r) → s4 ≡ correctE unit r media line s0
   unfolding correctE
-  corrected-e fs gs hs is bs cs ds es =
-      let l = p .field in
-      let w = halfOf false unit r in
-      es
-      ∙ ap (λ (x : Face). faceDone w x media line d) is
-      ∙ ez-upper-done unit r media line d (omega arith)
-      ∙ ap (ezUpper unit r media line) (ds ∙ ap (λ (x : Face). faceDone w x media line c) hs ∙ ez-lower-done unit r media line c (omega arith)
-      ∙ ap (ezLower unit r media line) (cs ∙ ap (λ (x : Face). faceDone w x media line b) gs ∙ ex-upper-done unit r media line b (omega arith)
-      ∙ ap (exUpper unit r media line) (bs ∙ ap (λ (x : Face). faceDone w x media line a) fs ∙ ex-lower-done unit r media line a l)))
+  corrected-e a d =
+      let c = p .corners in
+      four false unit (lineLength (r .nz)) r media line _ (e-agrees unit r media line) f1 f2 f3 f4 _ _ _ _ s0 s1 s2 s3 s4 (p .field) l1 l2 l3
+      (a .0, ex-lower-fit r c, d .0) (a .1, ex-upper-fit r c, d .1) (a .2, ez-lower-fit r c, d .2) (a .3, ez-upper-fit r c, d .3)

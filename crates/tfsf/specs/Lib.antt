@@ -2,5 +2,4 @@
 pub mod Wave
 pub mod Line
 pub mod Corrections
-pub mod Spans
-pub mod Faces
+pub mod Inner

@@ -3,7 +3,7 @@ use Prim.Native.Nat.{_-_, _≤_, ℕ}
 use native.Mathlib.Omega.{arith}
 use borrow.Author.Needs.{needs}
 use Rattle.ade.proofs.Columns.{changed-none, cells-more}
-use Rattle.ade.specs.Runs.{Changed, byCell}
+use Rattle.ade.specs.Inner.Runs.{Changed, byCell}
 use Rattle.ade.proofs.advance_cells.Statement.{statement}
 use Rattle.ade.proofs.advance_cells.Tie as tie
 

@@ -2,7 +2,7 @@ use Prim.Native.Nat.{_+_}
 use native.Mathlib.Omega.{arith}
 use borrow.Author.Needs.{needs}
 use Rattle.ade.proofs.Columns.{three-done}
-use Rattle.ade.specs.Runs.{coeffs}
+use Rattle.ade.specs.Inner.Runs.{coeffs}
 use Rattle.ade.proofs.components.Statement.{statement}
 use Rattle.ade.proofs.components.Tie as tie
 

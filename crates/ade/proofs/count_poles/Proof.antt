@@ -4,7 +4,7 @@ use native.Mathlib.Omega.{arith}
 use lib.ListN.{length-set, length}
 use borrow.Author.Needs.{needs}
 use Rattle.ade.proofs.Tables.{counts-more}
-use Rattle.ade.specs.Runs.{Counts}
+use Rattle.ade.specs.Inner.Runs.{Counts}
 use Rattle.ade.proofs.count_poles.Statement.{statement}
 use Rattle.ade.proofs.count_poles.Tie as tie
 

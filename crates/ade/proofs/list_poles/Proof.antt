@@ -4,7 +4,7 @@ use native.Mathlib.Omega.{arith}
 use lib.ListN.{length}
 use borrow.Author.Needs.{needs}
 use Rattle.ade.proofs.Tables.{listed-more, listed-none}
-use Rattle.ade.specs.Runs.{Listed}
+use Rattle.ade.specs.Inner.Runs.{Listed}
 use Rattle.ade.proofs.list_poles.Statement.{statement}
 use Rattle.ade.proofs.list_poles.Tie as tie
 

@@ -3,7 +3,7 @@ use Prim.Native.Nat.{_-_, _≤_, ℕ}
 use native.Mathlib.Omega.{arith}
 use borrow.Author.Needs.{needs}
 use Rattle.ade.proofs.Columns.{run-more, run-none}
-use Rattle.ade.specs.Runs.{Changed, byRun}
+use Rattle.ade.specs.Inner.Runs.{Changed, byRun}
 use Rattle.ade.proofs.run.Statement.{statement}
 use Rattle.ade.proofs.run.Tie as tie
 

@@ -1,7 +1,7 @@
 use Prim.Native.Nat.{_-_, _≤_}
 use native.Mathlib.Omega.{arith}
 use Rattle.ade.proofs.Tables.{run-further, run-start}
-use Rattle.ade.specs.Runs.{RunEnd}
+use Rattle.ade.specs.Inner.Runs.{RunEnd}
 use Rattle.ade.proofs.run_end.Statement.{statement}
 use Rattle.ade.proofs.run_end.Tie as tie
 

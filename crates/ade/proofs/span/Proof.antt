@@ -3,7 +3,7 @@ use Prim.Native.Nat.{_-_, _≤_, ℕ}
 use native.Mathlib.Omega.{arith}
 use borrow.Author.Needs.{needs}
 use Rattle.ade.proofs.Columns.{changed-none, span-more}
-use Rattle.ade.specs.Runs.{Changed, bySpan, coeffs}
+use Rattle.ade.specs.Inner.Runs.{Changed, bySpan, coeffs}
 use Rattle.ade.proofs.span.Statement.{statement}
 use Rattle.ade.proofs.span.Tie as tie
 

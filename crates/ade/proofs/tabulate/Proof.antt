@@ -4,7 +4,7 @@ use native.Mathlib.Omega.{arith}
 use lib.ListN.{length}
 use borrow.Author.Needs.{needs}
 use Rattle.ade.proofs.Tables.{table-more}
-use Rattle.ade.specs.Runs.{Table}
+use Rattle.ade.specs.Inner.Runs.{Table}
 use Rattle.ade.proofs.tabulate.Statement.{statement}
 use Rattle.ade.proofs.tabulate.Tie as tie
 

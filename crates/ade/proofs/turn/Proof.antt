@@ -1,10 +1,10 @@
 use borrow.Author.Needs.{needs}
-use Rattle.ade.specs.Runs.{turned}
+use Rattle.ade.specs.Inner.Runs.{storeMoved}
 use Rattle.ade.proofs.turn.Statement.{statement}
 use Rattle.ade.proofs.turn.Tie as tie
 
 returns : tie.Need-returns
-unfolding turned
+unfolding storeMoved
 returns c = cc
 
 pub turn-spec : {M : Type 1} → statement M

@@ -3,13 +3,13 @@ ghost use mathlib.Core.Path.{_≡_};
 ghost use Rattle.root.specs.Constants.{eps0, mu0};
 ghost use Rattle.root.specs.Rounded.{zeroF};
 ghost use Rattle.fields.specs.Fields.{energyCall, planeCall};
-ghost use Rattle.calls.specs.Blocks.{told, readBlock, answered, answering};
+ghost use Rattle.calls.specs.Blocks.{readout, readBlock, answered, answering};
 use calls::blocks;
 use fields::readings;
 use grid::fault::BAD_STUDY;
 
 pub fn total_energy(b: &[u8], e: &[f64], h: &[f64], media: &[f64], energy: &mut [f64]) -> u32
-    ensures { λ n. ⌜ told n (now (energy .exit)) ≡ readBlock (λ r. answering (energyCall eps0 mu0 r (now (e .entry)) (now (h .entry)) (now (media .entry))) (now (energy .entry))) (now (b .entry)) (answered zeroF (now (energy .entry))) ⌝ }
+    ensures { λ n. ⌜ readout n (now (energy .exit)) ≡ readBlock (λ r. answering (energyCall eps0 mu0 r (now (e .entry)) (now (h .entry)) (now (media .entry))) (now (energy .entry))) (now (b .entry)) (answered zeroF (now (energy .entry))) ⌝ }
 {
     if !block::is_record(b) {
         blocks::answer(energy, 0.0);
@@ -22,7 +22,7 @@ pub fn total_energy(b: &[u8], e: &[f64], h: &[f64], media: &[f64], energy: &mut 
 }
 
 pub fn plane_reading(b: &[u8], k: usize, e: &[f64], h: &[f64], reading: &mut [f64]) -> u32
-    ensures { λ n. ⌜ told n (now (reading .exit)) ≡ readBlock (λ r. answering (planeCall r k (now (e .entry)) (now (h .entry))) (now (reading .entry))) (now (b .entry)) (answered zeroF (now (reading .entry))) ⌝ }
+    ensures { λ n. ⌜ readout n (now (reading .exit)) ≡ readBlock (λ r. answering (planeCall r k (now (e .entry)) (now (h .entry))) (now (reading .entry))) (now (b .entry)) (answered zeroF (now (reading .entry))) ⌝ }
 {
     if !block::is_record(b) {
         blocks::answer(reading, 0.0);

@@ -2,7 +2,8 @@
 ghost use mathlib.Core.Path.{_≡_};
 ghost use Rattle.grid.specs.Stores.{stores};
 ghost use Rattle.format.specs.Save.{lengthCall, saveCall};
-ghost use Rattle.calls.specs.Blocks.{sent, told, readBlock, rewindOnBlock, answered, answering};
+ghost use Rattle.calls.specs.Blocks.{sent, readout, readBlock, rewindOnBlock, answered, answering};
+use block::BLOCK_LENGTH;
 use calls::blocks;
 use grid::Record;
 use grid::fault::BAD_STUDY;
@@ -11,7 +12,7 @@ use root::Spacings;
 use saves::judge;
 
 pub fn save_length(b: &[u8], length: &mut [usize]) -> u32
-    ensures { λ n. ⌜ told n (now (length .exit)) ≡ readBlock (λ r. answering (lengthCall r) (now (length .entry))) (now (b .entry)) (answered 0 (now (length .entry))) ⌝ }
+    ensures { λ n. ⌜ readout n (now (length .exit)) ≡ readBlock (λ r. answering (lengthCall r) (now (length .entry))) (now (b .entry)) (answered 0 (now (length .entry))) ⌝ }
 {
     if !block::is_record(b) {
         blocks::answer_length(length, 0);
@@ -36,7 +37,7 @@ pub fn save<'a>(
     ids: &[u32],
     out: &mut [u8],
 ) -> u32
-    ensures { λ n. ⌜ told n (now (out .exit)) ≡ readBlock (λ r. saveCall r (stores (now (e .entry)) (now (h .entry)) (now (media .entry)) (now («psi_e» .entry)) (now («psi_h» .entry)) (now (tables .entry)) (now (poles .entry)) (now (aux .entry)) (now (ids .entry))) (now (out .entry))) (now (b .entry)) (now (out .entry)) ⌝ }
+    ensures { λ n. ⌜ readout n (now (out .exit)) ≡ readBlock (λ r. saveCall r (stores (now (e .entry)) (now (h .entry)) (now (media .entry)) (now («psi_e» .entry)) (now («psi_h» .entry)) (now (tables .entry)) (now (poles .entry)) (now (aux .entry)) (now (ids .entry))) (now (out .entry))) (now (b .entry)) (now (out .entry)) ⌝ }
 {
     if !block::is_record(b) {
         return BAD_STUDY;
@@ -73,7 +74,7 @@ pub fn rewind(
     ensures { λ n. ⌜ sent n (now (b .exit)) (stores (now (e .exit)) (now (h .exit)) (now (media .exit)) (now («psi_e» .exit)) (now («psi_h» .exit)) (now (tables .exit)) (now (poles .exit)) (now (aux .exit)) (now (ids .exit))) ≡ rewindOnBlock (now (save .entry)) (now (b .entry)) (stores (now (e .entry)) (now (h .entry)) (now (media .entry)) (now («psi_e» .entry)) (now («psi_h» .entry)) (now (tables .entry)) (now (poles .entry)) (now (aux .entry)) (now (ids .entry))) ⌝ }
 {
     // With no earlier fault it is 4, whatever stores are lent.
-    if b.len() != 2073 {
+    if b.len() != BLOCK_LENGTH {
         return stores::lent_fault(judge::bytes_fault(save), false);
     }
     let o = saves::rewind(

@@ -3,6 +3,7 @@ ghost use mathlib.Core.Path.{_≡_};
 ghost use Rattle.grid.specs.Stores.{stores};
 ghost use Rattle.fields.specs.Fields.{reset, resetCall};
 ghost use Rattle.calls.specs.Blocks.{sent, onBlock, openOnBlock};
+use block::BLOCK_LENGTH;
 use calls::blocks;
 use fields::reset;
 use grid::fault;
@@ -35,7 +36,7 @@ pub fn open(
     let spacings = Spacings { dx, dy, dz, dt };
     let r = opening::open_record(nx, ny, nz, pole_slots, spacings);
     // With no earlier fault it is 4, whatever stores are lent.
-    if b.len() != 2073 {
+    if b.len() != BLOCK_LENGTH {
         return stores::lent_fault(fault::fault_of(r), false);
     }
     let o = opening::new_rect(

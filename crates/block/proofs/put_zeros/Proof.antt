@@ -4,15 +4,16 @@ use native.Mathlib.Omega.{arith}
 use lib.ListN.{length, set, length-set, replicate}
 use Rattle.grid.proofs.Filling.{fill-none, fill-more}
 use Rattle.codec.specs.Lists.{put}
+use Rattle.heads.specs.Numbers.{mlLength}
 use borrow.Author.Needs.{needs}
 use Rattle.block.proofs.put_zeros.Statement.{statement}
 use Rattle.block.proofs.put_zeros.Tie as tie
 
 abbrev Inv-loop : tie.InvT-loop
-Inv-loop b₀ at i₀ b i = (i ≤ 125) × (length b ≡ length b₀) × (b ≡ put b₀ at (replicate i 0))
+Inv-loop b₀ at i₀ b i = (i ≤ mlLength) × (length b ≡ length b₀) × (b ≡ put b₀ at (replicate i 0))
 
 abbrev μ-loop : tie.MeasureT-loop
-μ-loop b₀ at i₀ b i = 125 - i
+μ-loop b₀ at i₀ b i = mlLength - i
 
 loop-again : tie.Need-loop-again Inv-loop μ-loop
 loop-again c =
@@ -23,7 +24,7 @@ loop-again c =
 returns : tie.Need-returns Inv-loop μ-loop
 returns c =
     let a = c .before .before .args in
-    let e : c .before .loop .i ≡ 125 = omega arith in
+    let e : c .before .loop .i ≡ mlLength = omega arith in
     c .before .loop .inv .2 ∙ ap (λ k. put (a .b .now) (a .at) (replicate k 0)) e
 
 pub put-zeros-spec : {M : Type 1} → statement M

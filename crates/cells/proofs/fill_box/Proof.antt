@@ -2,9 +2,9 @@ use mathlib.Core.Path.{_≡_, refl, ap, _∙_}
 use Prim.Native.Nat.{_+_, _-_, _*_, _≤_, _<_}
 use native.Mathlib.Omega.{arith}
 use lib.ListN.{length}
-use Rattle.cells.specs.Blocks.{on, inBlocks, setPlane, setBox}
+use Rattle.cells.specs.Inner.Blocks.{on, inBlocks, setPlane, setBox}
 use Rattle.cells.proofs.Sweeps.{sweep-none, sweep-more, sweep-end}
-use Rattle.cells.proofs.Blocks.{block-end}
+use Rattle.cells.specs.Reading.{block-end}
 use Rattle.cells.proofs.Pointwise.{plane-keeps}
 use borrow.Author.Needs.{needs}
 use Rattle.cells.proofs.fill_box.Statement.{statement}

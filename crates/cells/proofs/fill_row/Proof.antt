@@ -2,7 +2,7 @@ use mathlib.Core.Path.{_≡_, refl, ap, _∙_}
 use Prim.Native.Nat.{_+_, _-_, _≤_, _<_}
 use native.Mathlib.Omega.{arith}
 use lib.ListN.{length, set, length-set}
-use Rattle.cells.specs.Blocks.{on, setRow}
+use Rattle.cells.specs.Inner.Blocks.{on, setRow}
 use Rattle.cells.proofs.Sweeps.{row-none, row-more, row-end}
 use borrow.Author.Needs.{needs}
 use Rattle.cells.proofs.fill_row.Statement.{statement}

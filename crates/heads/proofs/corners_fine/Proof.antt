@@ -1,11 +1,12 @@
 use mathlib.Core.Path.{refl}
+use Rattle.grid.specs.Fault.{allBelow}
 use Rattle.heads.specs.Numbers.{cornersFine}
 use borrow.Author.Needs.{needs}
 use Rattle.heads.proofs.corners_fine.Statement.{statement}
 use Rattle.heads.proofs.corners_fine.Tie as tie
 
 returns : tie.Need-returns
-unfolding cornersFine
+unfolding cornersFine allBelow
 returns c = refl
 
 pub corners-fine-spec : {M : Type 1} → statement M

@@ -1,3 +1,4 @@
+use Rattle.grid.specs.Fault.{allBelow}
 use Rattle.heads.specs.Numbers.{flagsFine}
 use mathlib.Core.Path.{refl}
 use borrow.Author.Needs.{needs}
@@ -5,7 +6,7 @@ use Rattle.heads.proofs.flags_fine.Statement.{statement}
 use Rattle.heads.proofs.flags_fine.Tie as tie
 
 returns : tie.Need-returns
-unfolding flagsFine
+unfolding flagsFine allBelow
 returns c = refl
 
 pub flags-fine-spec : {M : Type 1} → statement M

@@ -1,11 +1,12 @@
 use mathlib.Core.Path.{refl}
+use Rattle.grid.specs.Fault.{allBelow}
 use Rattle.heads.specs.Numbers.{ghFine}
 use borrow.Author.Needs.{needs}
 use Rattle.heads.proofs.gh_fine.Statement.{statement}
 use Rattle.heads.proofs.gh_fine.Tie as tie
 
 returns : tie.Need-returns
-unfolding ghFine
+unfolding ghFine allBelow
 returns c = rw (c .is-fine5 .ensures, c .before .gh-shaped .ensures, c .before .before .is-fine4 .ensures, c .before .before .before .is-fine3 .ensures, c .before .before .before .before .is-fine2 .ensures, c .before .before .before .before .before .is-fine .ensures) refl
 
 pub gh-fine-spec : {M : Type 1} → statement M

@@ -1,4 +1,4 @@
-use Rattle.magnetic.specs.Swept.{Swept}
+use Rattle.magnetic.specs.Inner.Swept.{Swept}
 use lib.Ieee.{Float}
 use mathlib.Core.List.{List}
 use Rattle.fdtd.proofs.Places.{row-more}

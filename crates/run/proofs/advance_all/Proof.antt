@@ -7,7 +7,7 @@ use Rattle.grid.specs.declared.Clock.{Clock}
 use Rattle.grid.specs.Edited.{withClock}
 use Rattle.grid.specs.Stores.{stores}
 use Rattle.step.specs.Step.{lastStep}
-use Rattle.step.specs.Ready.{Ready}
+use Rattle.step.specs.Inner.Ready.{StepReady}
 use Rattle.run.specs.Run.{ran}
 use Rattle.run.proofs.Runs.{goes, ends, by-clock, still-ready, less-left}
 use Rattle.run.proofs.advance_all.Statement.{statement}
@@ -17,7 +17,7 @@ abbrev Inv-loop : tie.InvT-loop
 Inv-loop eps0 mu0 c0 samples e₀ h₀ media psi-e₀ psi-h₀ tables poles₀ aux₀ ids q₀ i₀ e h psi-e psi-h poles aux q i =
     (i ≤ length samples)
     × (ran eps0 mu0 c0 q (drop i samples) (stores e h media psi-e psi-h tables poles aux ids) ≡ ran eps0 mu0 c0 q₀ samples (stores e₀ h₀ media psi-e₀ psi-h₀ tables poles₀ aux₀ ids))
-    × Ready q (stores e h media psi-e psi-h tables poles aux ids)
+    × StepReady q (stores e h media psi-e psi-h tables poles aux ids)
     × (q .clock .steps + (length samples - i) ≤ lastStep)
     × (length e ≡ length e₀)
     × (length h ≡ length h₀)

@@ -6,7 +6,7 @@ use lib.ListN.{length, getD}
 use lib.Ieee.{nan}
 use Rattle.codec.specs.Lists.{put}
 use Rattle.cells.specs.Cells.{joined, row, cellwise}
-use Rattle.cells.proofs.Blocks.{block-end, length-row, length-joined}
+use Rattle.cells.specs.Reading.{block-end, length-row, length-joined}
 use Rattle.boundary.specs.Lossy.{strongest}
 use Rattle.cells.proofs.Written.{joined-none, joined-more, joined-all}
 use Rattle.boundary.proofs.lossy.lossy_cells.Statement.{statement}

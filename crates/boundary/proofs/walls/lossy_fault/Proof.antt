@@ -11,7 +11,7 @@ use Rattle.boundary.proofs.walls.lossy_fault.Tie as tie
 
 returns : tie.Need-returns
 unfolding lossyFault
-returns c = let a = c .before .before .before .before .before .before .before .args in let f = judged-fault (a .r) (λ l. layerLong (a .psi-e) (a .psi-h) (a .tables) l && eqb (a .media) (l .media)) _ _ (c .before .before .before .before .before .before .judge .ensures) (c .before .before .lent-fault .ensures ∙ ap (λ (t : Bool). lentFault (c .before .before .before .before .before .before .judge .result .refusal) (t && eqb (a .media) (c .before .before .before .before .before .before .judge .result .lengths .media))) (c .before .before .before .before .layer-fits .ensures)) in cc
+returns c = let a = c .before .before .before .before .before .before .before .args in let f = judged-fault (a .r) (λ l. layerLong (a .psi-e) (a .psi-h) (a .tables) l && eqb (a .media) (l .media)) _ _ (c .before .before .before .before .before .before .judge .ensures) (c .before .before .lent-fault .ensures ∙ ap (λ (t : Bool). lentFault (c .before .before .before .before .before .before .judge .result .refusal) (t && eqb (a .media) (c .before .before .before .before .before .before .judge .result .lengths .media))) (c .before .before .before .before .layer-long .ensures)) in cc
 
 pub lossy-fault-spec : {M : Type 1} → statement M
 lossy-fault-spec =

@@ -11,15 +11,15 @@ use Rattle.boundary.proofs.walls.set_plain.Tie as tie
 
 returns : tie.Need-returns
 unfolding setPlainCall plainFault
-returns c = let a = c .before .before .before .before .before .before .before .before .args in turned-down _ _ _ _ _ _ (judged-fault (a .r) (layerLong (length (a .psi-e .now)) (length (a .psi-h .now)) (length (a .tables .now))) _ _ (c .before .before .before .before .judge .ensures) (c .before .lent-fault .ensures ∙ ap (lentFault (c .before .before .before .before .judge .result .refusal)) (c .before .before .layer-fits .ensures))) (c .if1 .taken)
+returns c = let a = c .before .before .before .before .before .before .before .before .args in turned-down _ _ _ _ _ _ (judged-fault (a .r) (layerLong (length (a .psi-e .now)) (length (a .psi-h .now)) (length (a .tables .now))) _ _ (c .before .before .before .before .judge .ensures) (c .before .lent-fault .ensures ∙ ap (lentFault (c .before .before .before .before .judge .result .refusal)) (c .before .before .layer-long .ensures))) (c .if1 .taken)
 
 clear-layer-requires : tie.Need-clear-layer-requires
 unfolding plainFault
-clear-layer-requires c κs = let a = c .before .before .before .before .before .before .before .before .before .before .before .args in plain-none (a .r) (layer (a .psi-e .now) (a .psi-h .now) (a .tables .now)) (sym (judged-fault (a .r) (layerLong (length (a .psi-e .now)) (length (a .psi-h .now)) (length (a .tables .now))) _ _ (c .before .before .before .before .before .before .before .judge .ensures) (c .before .before .before .before .lent-fault .ensures ∙ ap (lentFault (c .before .before .before .before .before .before .before .judge .result .refusal)) (c .before .before .before .before .before .layer-fits .ensures))) ∙ c .before .before .before .if1 .left)
+clear-layer-requires c κs = let a = c .before .before .before .before .before .before .before .before .before .before .before .args in plain-none (a .r) (layer (a .psi-e .now) (a .psi-h .now) (a .tables .now)) (sym (judged-fault (a .r) (layerLong (length (a .psi-e .now)) (length (a .psi-h .now)) (length (a .tables .now))) _ _ (c .before .before .before .before .before .before .before .judge .ensures) (c .before .before .before .before .lent-fault .ensures ∙ ap (lentFault (c .before .before .before .before .before .before .before .judge .result .refusal)) (c .before .before .before .before .before .layer-long .ensures))) ∙ c .before .before .before .if1 .left)
 
 returns-2 : tie.Need-returns-2
 unfolding setPlainCall plainFault
-returns-2 c = let a = c .before .before .before .before .before .before .before .before .before .before .before .before .before .before .before .before .before .before .before .args in taken-up _ _ _ _ _ _ _ _ (judged-fault (a .r) (layerLong (length (a .psi-e .now)) (length (a .psi-h .now)) (length (a .tables .now))) _ _ (c .before .before .before .before .before .before .before .before .before .before .before .before .before .before .before .judge .ensures) (c .before .before .before .before .before .before .before .before .before .before .before .before .lent-fault .ensures ∙ ap (lentFault (c .before .before .before .before .before .before .before .before .before .before .before .before .before .before .before .judge .result .refusal)) (c .before .before .before .before .before .before .before .before .before .before .before .before .before .layer-fits .ensures))) (c .before .before .before .before .before .before .before .before .before .before .before .if1 .left) (c .layer-off .ensures) (c .before .before .before .before .before .before .before .clear-layer .ensures)
+returns-2 c = let a = c .before .before .before .before .before .before .before .before .before .before .before .before .before .before .before .before .before .before .before .args in taken-up _ _ _ _ _ _ _ _ (judged-fault (a .r) (layerLong (length (a .psi-e .now)) (length (a .psi-h .now)) (length (a .tables .now))) _ _ (c .before .before .before .before .before .before .before .before .before .before .before .before .before .before .before .judge .ensures) (c .before .before .before .before .before .before .before .before .before .before .before .before .lent-fault .ensures ∙ ap (lentFault (c .before .before .before .before .before .before .before .before .before .before .before .before .before .before .before .judge .result .refusal)) (c .before .before .before .before .before .before .before .before .before .before .before .before .before .layer-long .ensures))) (c .before .before .before .before .before .before .before .before .before .before .before .if1 .left) (c .layer-off .ensures) (c .before .before .before .before .before .before .before .clear-layer .ensures)
 
 pub set-plain-spec : {M : Type 1} → statement M
 set-plain-spec =

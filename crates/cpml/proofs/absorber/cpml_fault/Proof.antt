@@ -17,7 +17,7 @@ returns c =
     let j = c .before .before .before .before .judge .result in
     judged-fault (a .r) (λ (l : Lengths). layerLong (a .psi-e) (a .psi-h) (a .tables) l && eqb (a .given) (l .tables)) _ _
     (c .before .before .before .before .judge .ensures)
-    (c .lent-fault .ensures ∙ ap (λ (b : Bool). lentFault (j .refusal) (b && eqb (a .given) (j .lengths .tables))) (c .before .before .layer-fits .ensures))
+    (c .lent-fault .ensures ∙ ap (λ (b : Bool). lentFault (j .refusal) (b && eqb (a .given) (j .lengths .tables))) (c .before .before .layer-long .ensures))
 
 pub cpml-fault-spec : {M : Type 1} → statement M
 cpml-fault-spec =

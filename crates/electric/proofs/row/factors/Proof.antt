@@ -5,7 +5,7 @@ use native.Mathlib.Omega.{arith}
 use lib.ListN.{length-set, getD}
 use lib.Ieee.{nan}
 use Rattle.fdtd.specs.Yee.{ca, cb}
-use Rattle.fdtd.specs.Span.{Two}
+use Rattle.fdtd.specs.Inner.Span.{Two}
 use Rattle.electric.proofs.Twos.{two-start, two-step, two-end}
 use Rattle.electric.proofs.row.factors.Statement.{statement}
 use Rattle.electric.proofs.row.factors.Tie as tie

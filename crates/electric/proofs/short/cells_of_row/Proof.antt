@@ -8,8 +8,8 @@ use lib.Ieee.{Float}
 use Rattle.fdtd.proofs.Lines.{fit-as}
 use Rattle.fdtd.proofs.Singles.{doing-start, doing-end}
 use Rattle.fdtd.proofs.Beside.{known-as}
-use Rattle.electric.specs.Swept.{Swept}
-use Rattle.electric.specs.Celled.{Sweeping}
+use Rattle.electric.specs.Inner.Swept.{Swept}
+use Rattle.electric.specs.Inner.Celled.{Sweeping}
 use Rattle.electric.proofs.short.cells_of_row.Statement.{statement}
 use Rattle.electric.proofs.short.cells_of_row.Tie as tie
 

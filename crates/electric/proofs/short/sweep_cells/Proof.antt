@@ -6,7 +6,7 @@ use lib.ListN.{length}
 use lib.Ieee.{Float}
 use Rattle.fdtd.proofs.Places.{row-more}
 use Rattle.fdtd.proofs.Lines.{done-as, done-start, fit-as}
-use Rattle.electric.specs.Swept.{Swept}
+use Rattle.electric.specs.Inner.Swept.{Swept}
 use Rattle.electric.proofs.short.sweep_cells.Statement.{statement}
 use Rattle.electric.proofs.short.sweep_cells.Tie as tie
 

@@ -1,5 +1,5 @@
 use borrow.Author.Needs.{needs}
-use Rattle.fdtd.specs.Rows.{kOf}
+use Rattle.fdtd.specs.Inner.Rows.{kOf}
 use Rattle.fdtd.proofs.rows.coef_at.Statement.{statement}
 use Rattle.fdtd.proofs.rows.coef_at.Tie as tie
 

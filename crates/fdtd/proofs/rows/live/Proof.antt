@@ -7,8 +7,8 @@ use lib.Ieee.{nan}
 use borrow.Author.Needs.{needs}
 use Rattle.cpml.specs.declared.Advanced.{Advanced}
 use Rattle.fdtd.specs.Yee.{memNext, layered}
-use Rattle.fdtd.specs.Rows.{kOf}
-use Rattle.fdtd.specs.Span.{Span}
+use Rattle.fdtd.specs.Inner.Rows.{kOf}
+use Rattle.fdtd.specs.Inner.Span.{Span}
 use Rattle.fdtd.proofs.Cellwise.{live-law, mem-law}
 use Rattle.fdtd.proofs.Spans.{span-start, span-step, span-end}
 use Rattle.fdtd.proofs.rows.live.Statement.{statement}

@@ -1,6 +1,6 @@
 use borrow.Author.Needs.{needs}
 use Rattle.root.specs.Constants.{c0}
-use Rattle.fdtd.specs.Span.{Trio}
+use Rattle.fdtd.specs.Inner.Span.{Trio}
 use lib.Ieee.{nan}
 use mathlib.Core.Path.{_∙_}
 use native.Mathlib.Omega.{arith}

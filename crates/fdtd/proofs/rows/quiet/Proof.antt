@@ -7,8 +7,8 @@ use lib.Ieee.{nan}
 use Rattle.root.specs.Rounded.{_⊖_, _⊗_, zeroF, oneF}
 use borrow.Author.Needs.{needs}
 use Rattle.fdtd.specs.Yee.{joins}
-use Rattle.fdtd.specs.Rows.{kOf}
-use Rattle.fdtd.specs.Span.{Span}
+use Rattle.fdtd.specs.Inner.Rows.{kOf}
+use Rattle.fdtd.specs.Inner.Span.{Span}
 use Rattle.fdtd.proofs.Spans.{span-start, span-step, span-end}
 use Rattle.fdtd.proofs.rows.quiet.Statement.{statement}
 use Rattle.fdtd.proofs.rows.quiet.Tie as tie

@@ -5,9 +5,8 @@ use native.Mathlib.Omega.{arith}
 use lib.ListN.{length, getD}
 use Rattle.codec.specs.Lists.{put}
 use Rattle.codec.specs.Bytes.{enc, total}
-use Rattle.codec.proofs.Row.{put-row}
-use Rattle.heads.specs.Numbers.{flagWidths}
-use Rattle.heads.proofs.Puts.{listed-all}
+use Rattle.codec.proofs.Row.{put-row, listed-all}
+use Rattle.heads.specs.Inner.Parts.{flagWidths}
 use borrow.Author.Needs.{needs}
 use Rattle.heads.proofs.payloads.put_flags.Statement.{statement}
 use Rattle.heads.proofs.payloads.put_flags.Tie as tie

@@ -1,5 +1,4 @@
-use Rattle.codec.specs.Bytes.{total}
-use Rattle.heads.specs.Numbers.{bits}
+use Rattle.codec.specs.Bytes.{total, bits}
 use mathlib.Core.Path.{refl}
 use mathlib.Core.List.{[], _∷_}
 use Rattle.codec.proofs.Row.{put-row}

@@ -5,9 +5,8 @@ use native.Mathlib.Omega.{arith}
 use lib.ListN.{length, getD}
 use Rattle.codec.specs.Lists.{put}
 use Rattle.codec.specs.Bytes.{enc, total}
-use Rattle.codec.proofs.Row.{put-row}
+use Rattle.codec.proofs.Row.{put-row, listed-all}
 use Rattle.heads.specs.Numbers.{slotWidths}
-use Rattle.heads.proofs.Puts.{listed-all}
 use borrow.Author.Needs.{needs}
 use Rattle.heads.proofs.payloads.put_slot.Statement.{statement}
 use Rattle.heads.proofs.payloads.put_slot.Tie as tie

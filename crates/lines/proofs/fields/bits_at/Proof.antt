@@ -1,6 +1,6 @@
 use mathlib.Core.Path.{ap, _∙_}
 use lib.Ieee.{binary64, ofBits}
-use Rattle.heads.specs.Numbers.{bits}
+use Rattle.codec.specs.Bytes.{bits}
 use borrow.Author.Needs.{needs}
 use Rattle.lines.proofs.fields.bits_at.Statement.{statement}
 use Rattle.lines.proofs.fields.bits_at.Tie as tie

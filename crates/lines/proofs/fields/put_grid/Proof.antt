@@ -1,13 +1,13 @@
 use Prim.Native.Nat.{_-_, _*_}
 use native.Mathlib.Omega.{arith}
-use Rattle.lines.specs.Places.{planeAt, gridAt}
+use Rattle.lines.specs.Inner.Places.{planeText, gridText}
 use Rattle.lines.proofs.Written.{Turned, turned-none, turned-more, turned-all, turn-fits}
 use borrow.Author.Needs.{needs}
 use Rattle.lines.proofs.fields.put_grid.Statement.{statement}
 use Rattle.lines.proofs.fields.put_grid.Tie as tie
 
 abbrev Inv-loop : tie.InvT-loop
-Inv-loop out₀ at b f nx ny nz p₀ k₀ out p k = Turned (135 * nx * ny) out₀ at nz (λ k. planeAt b f nx ny k (nx * ny * k)) out p k
+Inv-loop out₀ at b f nx ny nz p₀ k₀ out p k = Turned (135 * nx * ny) out₀ at nz (λ k. planeText b f nx ny k (nx * ny * k)) out p k
 
 abbrev μ-loop : tie.MeasureT-loop
 μ-loop out₀ at b f nx ny nz p₀ k₀ out p k = nz - k
@@ -39,7 +39,7 @@ loop-again : tie.Need-loop-again Inv-loop μ-loop
 loop-again c = turned-more _ _ _ _ _ _ _ _ _ _ (c .before .before .before .before .loop-test .taken) (c .before .before .before .before .before .loop .inv) (c .before .before .put-plane .ensures) (c .before .before .put-plane .kept .0)
 
 returns : tie.Need-returns Inv-loop μ-loop
-unfolding gridAt
+unfolding gridText
 returns c = turned-all _ _ _ _ _ _ _ _ (c .loop-test .left) (c .before .loop .inv)
 
 pub put-grid-spec : {M : Type 1} → statement M

@@ -1,13 +1,13 @@
 use Prim.Native.Nat.{_+_, _-_, _*_}
 use native.Mathlib.Omega.{arith}
-use Rattle.lines.specs.Places.{rowAt, planeAt}
+use Rattle.lines.specs.Inner.Places.{rowText, planeText}
 use Rattle.lines.proofs.Written.{Turned, turned-none, turned-more, turned-all, turn-fits}
 use borrow.Author.Needs.{needs}
 use Rattle.lines.proofs.fields.put_plane.Statement.{statement}
 use Rattle.lines.proofs.fields.put_plane.Tie as tie
 
 abbrev Inv-loop : tie.InvT-loop
-Inv-loop out₀ at b f nx ny k m p₀ j₀ out p j = Turned (135 * nx) out₀ at ny (λ j. rowAt b f nx j k (m + nx * j)) out p j
+Inv-loop out₀ at b f nx ny k m p₀ j₀ out p j = Turned (135 * nx) out₀ at ny (λ j. rowText b f nx j k (m + nx * j)) out p j
 
 abbrev μ-loop : tie.MeasureT-loop
 μ-loop out₀ at b f nx ny k m p₀ j₀ out p j = ny - j
@@ -39,7 +39,7 @@ loop-again : tie.Need-loop-again Inv-loop μ-loop
 loop-again c = turned-more _ _ _ _ _ _ _ _ _ _ (c .before .before .before .before .loop-test .taken) (c .before .before .before .before .before .loop .inv) (c .before .before .put-row .ensures) (c .before .before .put-row .kept .0)
 
 returns : tie.Need-returns Inv-loop μ-loop
-unfolding planeAt
+unfolding planeText
 returns c = turned-all _ _ _ _ _ _ _ _ (c .loop-test .left) (c .before .loop .inv)
 
 pub put-plane-spec : {M : Type 1} → statement M

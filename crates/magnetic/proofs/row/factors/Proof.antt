@@ -5,7 +5,7 @@ use lib.ListN.{getD}
 use lib.Ieee.{nan}
 use borrow.Author.Needs.{needs}
 use Rattle.fdtd.specs.Yee.{factor}
-use Rattle.fdtd.specs.Span.{Span}
+use Rattle.fdtd.specs.Inner.Span.{Span}
 use Rattle.fdtd.proofs.Spans.{span-start, span-step, span-end}
 use Rattle.magnetic.proofs.row.factors.Statement.{statement}
 use Rattle.magnetic.proofs.row.factors.Tie as tie

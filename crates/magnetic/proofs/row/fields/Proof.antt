@@ -4,7 +4,7 @@ use native.Mathlib.Omega.{arith}
 use lib.ListN.{getD}
 use lib.Ieee.{nan}
 use Rattle.root.specs.Rounded.{_⊖_, _⊗_}
-use Rattle.fdtd.specs.Span.{Span}
+use Rattle.fdtd.specs.Inner.Span.{Span}
 use Rattle.fdtd.proofs.Spans.{span-start, span-step, span-end}
 use Rattle.magnetic.proofs.row.fields.Statement.{statement}
 use Rattle.magnetic.proofs.row.fields.Tie as tie

@@ -8,8 +8,8 @@ use lib.Ieee.{Float}
 use Rattle.fdtd.proofs.Lines.{fit-as}
 use Rattle.fdtd.proofs.Singles.{doing-start, doing-end}
 use Rattle.fdtd.proofs.Beside.{known-as}
-use Rattle.magnetic.specs.Swept.{Swept}
-use Rattle.magnetic.specs.Celled.{Sweeping}
+use Rattle.magnetic.specs.Inner.Swept.{Swept}
+use Rattle.magnetic.specs.Inner.Celled.{Sweeping}
 use Rattle.magnetic.proofs.short.cells_of_row.Statement.{statement}
 use Rattle.magnetic.proofs.short.cells_of_row.Tie as tie
 

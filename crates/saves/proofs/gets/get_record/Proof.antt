@@ -1,6 +1,6 @@
 use mathlib.Core.Path.{ap, _∙_}
 use native.Mathlib.Omega.{arith}
-use Rattle.format.specs.Rewind.{countOf}
+use Rattle.heads.specs.Payloads.{countOf}
 use Rattle.saves.proofs.Judged.{steps-small}
 use Rattle.saves.proofs.Taken.{gh-room, ml-few, ml-room, record-read}
 use borrow.Author.Needs.{needs}

@@ -1,24 +1,67 @@
-use Rattle.format.specs.Rewind.{floats}
-use Rattle.saves.proofs.Judged.{taken-fault, taken-judged, taken-left}
+use Prim.Native.Nat.{_-_, _≤_}
+use mathlib.Core.Path.{_≡_, refl}
+use native.Mathlib.Omega.{arith}
+use lib.ListN.{length, drop, getD}
+use Rattle.format.specs.Records.{recordsFault}
+use Rattle.format.specs.Rewind.{floatsRecord}
+use Rattle.saves.specs.Inner.Places.{floatRecords}
+use Rattle.saves.proofs.Judged.{walk-room, floats-stay, floats-go, floats-end}
 use borrow.Author.Needs.{needs}
 use Rattle.saves.proofs.judge.floats_fault.Statement.{statement}
 use Rattle.saves.proofs.judge.floats_fault.Tie as tie
 
-check-f64s-requires : tie.Need-check-f64s-requires
-check-f64s-requires c κs =
-    let o = c .before .before .before .before .before in
-    let a = o .args in
-    taken-left (floats (a .mark) (a .n)) (a .b .now) (a .at) _ (c .before .before .before .take-at .ensures) _ _ (c .before .start .given .1) (o .pre .0)
+abbrev Inv-loop : tie.InvT-loop
+Inv-loop b start marks counts at₀ i₀ at i =
+    (i ≤ 8) × (at ≤ length b) × (recordsFault (floatRecords marks counts) (drop start b) ≡ recordsFault (drop i (floatRecords marks counts)) (drop at b))
 
-returns : tie.Need-returns
+abbrev μ-loop : tie.MeasureT-loop
+μ-loop b start marks counts at₀ i₀ at i = 8 - i
+
+take-floats-requires : tie.Need-take-floats-requires Inv-loop μ-loop
+take-floats-requires c κs =
+    let l = c .before .loop in
+    (l .inv .1, c .before .before .before .pre .1 .each (l .i) (c .loop-test .taken))
+
+returns : tie.Need-returns Inv-loop μ-loop
 returns c =
-    let a = c .before .before .before .before .before .args in
-    taken-fault (floats (a .mark) (a .n)) (a .b .now) (a .at) _ (c .before .before .before .take-at .ensures) _ (c .before .f .given .1)
-
-returns-2 : tie.Need-returns-2
-returns-2 c =
     let a = c .before .before .before .before .before .before .before .args in
-    taken-judged (floats (a .mark) (a .n)) (a .b .now) (a .at) _ (c .before .before .before .before .before .take-at .ensures) _ _ (c .before .before .before .start .given .1) _ _ (c .before .check-f64s .ensures) (c .first-fault .ensures)
+    let l = c .before .before .before .before .before .loop in
+    floats-stay (a .t3) (a .t4) (a .b .now) (a .start) (l .at) (l .i) (l .inv .2) (c .before .before .before .before .loop-test .taken) _ (c .before .before .before .take-floats .ensures) _ (c .before .f .given .1)
+
+loop-again : tie.Need-loop-again Inv-loop μ-loop
+loop-again c =
+    let a = c .before .before .before .before .before .before .before .args in
+    let l = c .before .before .before .before .before .loop in
+    let own = c .before .before .before .take-floats .ensures in
+    let came = c .before .next .given .1 in (
+      search needs,
+      walk-room (floatsRecord (getD (a .t3) (l .i) 0) (getD (a .t4) (l .i) 0)) (a .b .now) (l .at) _ own _ _ came (l .inv .1),
+      floats-go (a .t3) (a .t4) (a .b .now) (a .start) (l .at) (l .i) (l .inv .2) (c .before .before .before .before .loop-test .taken) _ own _ _ came,
+    )
+
+returns-2 : tie.Need-returns-2 Inv-loop μ-loop
+returns-2 c =
+    let a = c .before .before .before .before .args in
+    let l = c .before .before .loop in
+    floats-end (a .t3) (a .t4) (a .b .now) (a .start) (l .at) (l .i) (l .inv .2) _ (omega arith) (l .inv .1) (c .first-fault .ensures)
 
 pub floats-fault-spec : {M : Type 1} → statement M
-floats-fault-spec = tie.close (tie.spec (λ c. search needs) (λ c. search needs) (λ c κs. search needs) (λ c. search needs) (λ c. search needs) check-f64s-requires (λ c κs. search needs) returns returns-2)
+floats-fault-spec =
+    tie.close
+    (tie.spec
+    Inv-loop
+    μ-loop
+    (λ c. (search needs, search needs, refl))
+    (λ c. search needs)
+    (λ c. search needs)
+    (λ c. search needs)
+    (λ c. search needs)
+    take-floats-requires
+    (λ c. search needs)
+    returns
+    (λ c. search needs)
+    (λ c. search needs)
+    (λ c. search needs)
+    loop-again
+    (λ c κs. search needs)
+    returns-2)

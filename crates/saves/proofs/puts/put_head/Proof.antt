@@ -13,4 +13,4 @@ returns c =
     wrote-one _ _ _ _ _ _ _ (c .before .before .before .before .before .before .put-frame .ensures) (sym long) (c .before .before .put-gh .ensures) (omega (arith, long, o .pre))
 
 pub put-head-spec : {M : Type 1} → statement M
-put-head-spec = tie.close (tie.spec (λ c κs. search needs) (λ c κs. search needs) (λ c. search needs) returns)
+put-head-spec = tie.close (tie.spec (λ c. search needs) (λ c κs. search needs) (λ c κs. search needs) (λ c. search needs) returns)

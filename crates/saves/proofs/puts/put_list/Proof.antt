@@ -6,7 +6,7 @@ use Rattle.codec.specs.Lists.{put}
 use Rattle.cells.specs.Cells.{joined}
 use Rattle.cells.proofs.Written.{joined-none}
 use Rattle.grid.specs.Fault.{beyond}
-use Rattle.format.specs.Save.{materialBytes}
+use Rattle.heads.specs.Payloads.{materialBytes}
 use Rattle.saves.proofs.Placed.{list-more, list-all}
 use borrow.Author.Needs.{needs}
 use Rattle.saves.proofs.puts.put_list.Statement.{statement}

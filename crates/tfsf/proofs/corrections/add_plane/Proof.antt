@@ -1,9 +1,9 @@
-use Rattle.cells.proofs.Blocks.{block-end}
+use Rattle.cells.specs.Reading.{block-end}
 use Rattle.cells.proofs.Sweeps.{sweep-none, sweep-more}
 use Rattle.tfsf.proofs.Faced.{fits-kept}
 use Rattle.tfsf.proofs.Adding.{row-keeps}
-use Rattle.cells.specs.Blocks.{on, inBlocks}
-use Rattle.tfsf.specs.Faces.{addRow, addPlane, addend}
+use Rattle.cells.specs.Inner.Blocks.{on, inBlocks}
+use Rattle.tfsf.specs.Inner.Faces.{addRow, addPlane, addend}
 use lib.ListN.{length}
 use native.Mathlib.Omega.{arith}
 use Prim.Native.Nat.{_+_, _-_, _*_, _≤_}

@@ -1,6 +1,6 @@
 use Rattle.tfsf.proofs.Adding.{row-none, row-more}
-use Rattle.cells.specs.Blocks.{on}
-use Rattle.tfsf.specs.Faces.{addRow, addend}
+use Rattle.cells.specs.Inner.Blocks.{on}
+use Rattle.tfsf.specs.Inner.Faces.{addRow, addend}
 use lib.ListN.{length, length-set}
 use native.Mathlib.Omega.{arith}
 use Prim.Native.Nat.{ℕ, _+_, _-_, _≤_}
@@ -29,7 +29,7 @@ loop-again c =
       omega arith,
       omega arith,
       simp length-set (omega arith),
-      row-more (a .q) (a .w .nx) (a .f .b .i0) (λ i. addend (a .w) (a .f) (a .media .now) (a .x) (a .p + i)) (a .s .now) (z .pre .2) (l .i) (l .s) _ (l .inv .0) (omega arith) (l .inv .3) (c .addend-of .ensures),
+      row-more (a .q) (a .w .nx) (a .f .b .i0) (λ i. addend (a .w) (a .f) (a .media .now) (a .x) (a .p + i)) (a .s .now) (z .pre .2) (l .i) (l .s) _ (l .inv .0) (omega arith) (l .inv .3) (c .addend .ensures),
     )
 
 returns : tie.Need-returns Inv-loop μ-loop
@@ -39,7 +39,7 @@ returns c =
     let e : l .i ≡ a .f .b .i1 = omega arith in
     l .inv .3 ∙ ap (λ (k : ℕ). on (a .q) (a .w .nx) (addRow (a .w .nx) (a .f .b .i0) k (λ i. addend (a .w) (a .f) (a .media .now) (a .x) (a .p + i))) (a .s .now)) e
 
-asked : tie.Need-addend-of-requires Inv-loop μ-loop
+asked : tie.Need-addend-requires Inv-loop μ-loop
 asked c κs =
     let z = c .before .before .before .before .before .before in
     (z .pre .0 .few, z .pre .0 .stuff, omega arith)

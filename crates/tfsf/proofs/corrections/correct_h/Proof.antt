@@ -1,4 +1,4 @@
-use Rattle.tfsf.proofs.Faced.{low-of, hy-lower-asked, hy-upper-asked, hz-lower-asked, hz-upper-asked, corrected-h}
+use Rattle.tfsf.proofs.Faced.{low-of, asked, hy-lower-fit, hy-upper-fit, hz-lower-fit, hz-upper-fit, corrected-h}
 use native.Mathlib.Omega.{arith}
 use mathlib.Core.Bool.{true}
 use mathlib.Core.Path.{refl, _∙_}
@@ -18,7 +18,7 @@ add-face-requires : tie.Need-add-face-requires
 add-face-requires c κs =
     let z = c .before .before .before .before .before .before .before .before .before in
     let a = z .args in
-    hy-lower-asked true (a .mu0) (a .r) (a .media .now) (a .line .now) (a .h .now) _ (z .pre) refl _ (c .before .hy-lower .ensures)
+    asked true (a .mu0) 0 (a .r) (a .media .now) (a .line .now) (a .h .now) _ _ _ (z .pre) refl (omega arith) (c .before .hy-lower .ensures) (hy-lower-fit (a .r) (z .pre .corners))
 
 hy-upper-requires : tie.Need-hy-upper-requires
 hy-upper-requires c κs = low-of (c .before .before .before .before .before .before .before .before .before .before .before .before .pre)
@@ -28,10 +28,10 @@ add-face-requires-2 c κs =
     let x1 = c .before .before .before .before in
     let z = x1 .before .before .before .before .before .before .before .before .before .before in
     let a = z .args in
-    hy-upper-asked true (a .mu0) (a .r) (a .media .now) (a .line .now) (a .h .now) _ (z .pre) (x1 .add-face .kept .1 .1 .1 .1 .0) _ (c .before .hy-upper .ensures)
+    asked true (a .mu0) 0 (a .r) (a .media .now) (a .line .now) (a .h .now) _ _ _ (z .pre) (x1 .add-face .kept .1 .1 .1 .1 .0) (omega arith) (c .before .hy-upper .ensures) (hy-upper-fit (a .r) (z .pre .corners))
 
 hz-lower-requires : tie.Need-hz-lower-requires
-hz-lower-requires c κs = (low-of (c .before .before .before .before .before .before .before .before .before .before .before .before .before .before .before .before .before .pre), c .before .before .before .before .before .before .before .before .before .before .before .before .before .before .before .before .before .pre .sound .cells)
+hz-lower-requires c κs = low-of (c .before .before .before .before .before .before .before .before .before .before .before .before .before .before .before .before .before .pre)
 
 add-face-requires-3 : tie.Need-add-face-requires-3
 add-face-requires-3 c κs =
@@ -39,10 +39,10 @@ add-face-requires-3 c κs =
     let x1 = x2 .before .before .before .before .before in
     let z = x1 .before .before .before .before .before .before .before .before .before .before in
     let a = z .args in
-    hz-lower-asked true (a .mu0) (a .r) (a .media .now) (a .line .now) (a .h .now) _ (z .pre) (x2 .add-face2 .kept .1 .1 .1 .1 .0 ∙ x1 .add-face .kept .1 .1 .1 .1 .0) _ (c .before .hz-lower .ensures)
+    asked true (a .mu0) 0 (a .r) (a .media .now) (a .line .now) (a .h .now) _ _ _ (z .pre) (x2 .add-face2 .kept .1 .1 .1 .1 .0 ∙ x1 .add-face .kept .1 .1 .1 .1 .0) (omega arith) (c .before .hz-lower .ensures) (hz-lower-fit (a .r) (z .pre .corners))
 
 hz-upper-requires : tie.Need-hz-upper-requires
-hz-upper-requires c κs = (low-of (c .before .before .before .before .before .before .before .before .before .before .before .before .before .before .before .before .before .before .before .before .before .before .pre), c .before .before .before .before .before .before .before .before .before .before .before .before .before .before .before .before .before .before .before .before .before .before .pre .sound .cells)
+hz-upper-requires c κs = low-of (c .before .before .before .before .before .before .before .before .before .before .before .before .before .before .before .before .before .before .before .before .before .before .pre)
 
 add-face-requires-4 : tie.Need-add-face-requires-4
 add-face-requires-4 c κs =
@@ -51,7 +51,7 @@ add-face-requires-4 c κs =
     let x1 = x2 .before .before .before .before .before in
     let z = x1 .before .before .before .before .before .before .before .before .before .before in
     let a = z .args in
-    hz-upper-asked true (a .mu0) (a .r) (a .media .now) (a .line .now) (a .h .now) _ (z .pre) (x3 .add-face3 .kept .1 .1 .1 .1 .0 ∙ x2 .add-face2 .kept .1 .1 .1 .1 .0 ∙ x1 .add-face .kept .1 .1 .1 .1 .0) _ (c .before .hz-upper .ensures)
+    asked true (a .mu0) 0 (a .r) (a .media .now) (a .line .now) (a .h .now) _ _ _ (z .pre) (x3 .add-face3 .kept .1 .1 .1 .1 .0 ∙ x2 .add-face2 .kept .1 .1 .1 .1 .0 ∙ x1 .add-face .kept .1 .1 .1 .1 .0) (omega arith) (c .before .hz-upper .ensures) (hz-upper-fit (a .r) (z .pre .corners))
 
 same-length : tie.Need-same-length
 same-length c =
@@ -69,9 +69,10 @@ returns c =
     let x1 = x2 .before .before .before .before .before in
     let z = x1 .before .before .before .before .before .before .before .before .before .before in
     let a = z .args in
-    corrected-h (a .mu0) (a .r) (a .media .now) (a .line .now) (a .h .now) _ _ _ _ (z .pre) (x1 .add-face .kept .1 .1 .1 .1 .0) (x2 .add-face2 .kept .1 .1 .1 .1 .0) (x3 .add-face3 .kept .1 .1 .1 .1 .0) _ _ _ _
-    (x1 .before .before .hy-lower .ensures) (x2 .before .before .hy-upper .ensures) (x3 .before .before .hz-lower .ensures) (x4 .before .before .hz-upper .ensures)
-    (x1 .add-face .ensures) (x2 .add-face2 .ensures) (x3 .add-face3 .ensures) (x4 .add-face4 .ensures)
+    corrected-h (a .mu0) (a .r) (a .media .now) (a .line .now) _ _ _ _ (a .h .now) _ _ _ _ (z .pre)
+    (x1 .add-face .kept .1 .1 .1 .1 .0) (x2 .add-face2 .kept .1 .1 .1 .1 .0) (x3 .add-face3 .kept .1 .1 .1 .1 .0)
+    (x1 .before .before .hy-lower .ensures, x2 .before .before .hy-upper .ensures, x3 .before .before .hz-lower .ensures, x4 .before .before .hz-upper .ensures)
+    (x1 .add-face .ensures, x2 .add-face2 .ensures, x3 .add-face3 .ensures, x4 .add-face4 .ensures)
 
 pub correct-h-spec : {M : Type 1} → statement M
 correct-h-spec =

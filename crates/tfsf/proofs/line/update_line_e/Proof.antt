@@ -12,7 +12,7 @@ returns c =
     let z = x .before .before .before in
     let a = z .args in
     e-line (a .eps0) (a .c0) (a .s) (a .n) (a .sample) (a .line .now) _ (z .pre) _ _ _ _ (x .before .line-factor .ensures) (x .mur-factor .ensures) (y .move-e .ensures)
-    (c .before .before .before .absorbed-end .ensures) (c .before .absorbed-end2 .ensures)
+    (c .before .before .before .mur-end .ensures) (c .before .mur-end2 .ensures)
 
 pub update-line-e-spec : {M : Type 1} → statement M
 update-line-e-spec =

@@ -1,0 +1,2 @@
+-- What the code of this crate alone needs; no reader of the definitions does.
+pub mod Parts

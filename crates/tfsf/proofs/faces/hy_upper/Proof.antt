@@ -1,0 +1,12 @@
+use native.Mathlib.Omega.{arith}
+use Rattle.tfsf.specs.Corrections.{hyUpper}
+use Rattle.tfsf.proofs.Faced.{face-same}
+use Rattle.tfsf.proofs.faces.hy_upper.Statement.{statement}
+use Rattle.tfsf.proofs.faces.hy_upper.Tie as tie
+
+returns : tie.Need-returns
+unfolding hyUpper
+returns c = face-same (c .before .upper-face .ensures) (c .z-plane .ensures)
+
+pub hy-upper-spec : {M : Type 1} → statement M
+hy-upper-spec = tie.close (tie.spec (λ c κs. tt) (λ c κs. (c .before .pre, omega arith)) returns)

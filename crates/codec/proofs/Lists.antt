@@ -144,11 +144,6 @@ module _ {A : Type 0} where
     every-append (x ∷ l) r a b =
         and-i (p x) (every p (l ++ r)) (and-l (p x) (every p l) a) (every-append l r (and-r (p x) (every p l) a) b)
 
-    pub every-put : (l : List A) (at : ℕ) (vs : List A) → T (every p l) → T (every p vs) → T (every p (put l at vs))
-    unfolding put
-    every-put l at vs a b =
-        every-append (take at l ++ vs) (drop (at + length vs) l) (every-append (take at l) vs (every-take at l a) b) (every-drop (at + length vs) l a)
-
     pub every-at : (l : List A) (i : ℕ) (d : A) → T (every p l) → i < length l → T (p (getD l i d))
     unfolding every
     every-at [] i d t h = absurd (omega arith)

@@ -29,11 +29,6 @@ pub sum-more : (n : ℕ) (f : ℕ → Float) (s : Float) → s ≡ summed n f �
 unfolding summed
 sum-more n f s e = rw (add-one n, e)
 
-pub sum-same : (n : ℕ) (f g : ℕ → Float) → ((m : ℕ) → f m ≡ g m) → summed n f ≡ summed n g
-unfolding summed
-sum-same zero f g h = refl
-sum-same (suc n) f g h = rw (sum-same n f g h, h n)
-
 -- ---- what is known where none of the first faults stands
 pub record Read (r : Record) (electric magnetic media : ℕ) : Type 0 where
   pub sizes : Sound r

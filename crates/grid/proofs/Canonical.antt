@@ -28,10 +28,6 @@ material-twice : (m : DispersiveMaterial) → canonMaterial (canonMaterial m) �
 unfolding canonMaterial
 material-twice m = rw (keep-twice (m .«pole_count») blankSlot (m .poles))
 
-vacuum-canon : canonMaterial vacuumMaterial ≡ vacuumMaterial
-unfolding canonMaterial keepFirst
-vacuum-canon = refl
-
 materials-twice : (n : ℕ) (l : List DispersiveMaterial) →
     keepFirst n vacuumMaterial (map canonMaterial (keepFirst n vacuumMaterial (map canonMaterial l))) ≡ keepFirst n vacuumMaterial (map canonMaterial l)
 unfolding keepFirst

@@ -30,6 +30,7 @@ Over x r y = mid r y * mid r y * den x < num x * (wide r y * wide r y)
 
 -- For a positive x, subnormal or not: r is the double nearest the root of x. The root lies below the midpoint of r with every larger double and above
 -- the midpoint of r with every smaller one. A root is never itself a midpoint, so there is no tie, and both are strict.
+-- That the midpoints with r's two neighbours suffice is proved (`judged-nearest`, `nearest-judged`, proofs/Neighbours.antt).
 pub record NearestRoot (x r : Float) : Type 0 where
   pub held : T (fits binary64 r)
   pub above-zero : T (positive r)

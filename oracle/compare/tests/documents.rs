@@ -39,13 +39,23 @@ fn files(folder: &str, ending: &str) -> Vec<String> {
     out
 }
 
-/// The words that look like a path of a source file.
+/// The words that look like a path of a source file, or of any file outside the crates.
 fn paths(text: &str) -> BTreeSet<&str> {
     let breaks = |c: char| !(c.is_ascii_alphanumeric() || "_-./".contains(c));
     let words = text.split(breaks).map(|word| word.trim_matches('.'));
     let endings = [".antt", ".rt", ".edit"];
+    let folders = [
+        "bench/",
+        "docs/",
+        "examples/",
+        "host/",
+        "include/",
+        "oracle/",
+    ];
+    let outside = |word: &str| folders.iter().any(|f| word.starts_with(f)) && word.contains('.');
     words
-        .filter(|word| word.contains('/') && endings.iter().any(|e| word.ends_with(e)))
+        .filter(|word| word.contains('/'))
+        .filter(|word| endings.iter().any(|e| word.ends_with(e)) || outside(word))
         .collect()
 }
 

@@ -1,12 +1,43 @@
-# make test: everything that a change has to pass. Its last line is the proof's tally, 'N passed, M failed'.
+# make curve: the example's curve, from a fresh clone. make test: everything that a change has to pass; its last line is the proof's tally,
+# 'N passed, M failed'.
 SHELL := /bin/bash -o pipefail
-.PHONY: test format prove kit compare compare-long bench
+.PHONY: curve man test format prove kit setup engine command compare host compare-long cluster-test bench validate
+
+# What a curve needs is built first, each part with about how long it takes on two cores.
+EXAMPLE := office-80
+curve:
+	@$(MAKE) --no-print-directory setup
+	@if [ -e target/staticlib/libapi.a ]; then echo "1 of 3: the engine: proved already, unless a file changed"; \
+	else echo "1 of 3: the engine is proved and compiled, about 10 minutes"; fi
+	@$(MAKE) --no-print-directory engine
+	@echo "2 of 3: the command is built, about a minute the first time"
+	@$(MAKE) --no-print-directory command
+	@echo "3 of 3: the curve of examples/$(EXAMPLE).toml, a few seconds"
+	@mkdir -p target/curve
+	@target/host/release/cichowiej curve examples/$(EXAMPLE).toml --csv target/curve/$(EXAMPLE).csv --svg target/curve/$(EXAMPLE).svg \
+	  --html target/curve/$(EXAMPLE).html
+	@echo "written: target/curve/$(EXAMPLE).csv, .svg and .html"
+
+# The crates that host/ is built from: Debian's packages, unless cargo has a registry of its own.
+setup:
+	@host/setup
+
+# The proved library. What the prover says goes into a file; it is shown where something is not proved.
+engine:
+	@mkdir -p target && if ! rt staticlib api > target/engine.txt 2>&1; then tail -n 40 target/engine.txt; exit 1; fi
+
+command:
+	@host/cargo build --release --quiet -p cichowiej-command
+
+# The manual page, from the same words as --help.
+man: setup engine command
+	@mkdir -p target/man && target/host/release/cichowiej man > target/man/cichowiej.1 && echo "written: target/man/cichowiej.1"
 
 # The proof comes first, since it starts from nothing and leaves the proved crates to the comparison.
 # After it come a line that says whether there was an original to compare with, and one where the proof kit is another than the one in RATTLE-KIT.
-test: format
+test: format setup
 	@said=$$(mktemp); rt ci 2>&1 | tee $$said; proved=$$?; \
-	if [ $$proved = 0 ] && ! $(MAKE) --no-print-directory compare; then $(MAKE) --no-print-directory kit; exit 1; fi; \
+	if [ $$proved = 0 ] && ! $(MAKE) --no-print-directory compare host; then $(MAKE) --no-print-directory kit; exit 1; fi; \
 	$(MAKE) --no-print-directory kit; tail -n 1 $$said; exit $$proved
 
 # Another kit may prove it as well: it is named, and nothing fails.
@@ -27,12 +58,27 @@ compare:
 	rt check listing
 	cd oracle && cargo test --release
 
+# The library and the command for people, on the proved library; and the layer's tables and the validation's slabs against the original.
+host:
+	rt staticlib api
+	host/cargo test --release --workspace
+
 # The random studies, damaged saves and histories alone, many more of them.
 compare-long:
 	rt staticlib api
 	cd oracle && CICHOWIEJ_STUDIES=200000 CICHOWIEJ_DAMAGED=1000000 CICHOWIEJ_HISTORIES=20000 cargo test --release --test calls --test damaged --test histories
 
-# Time for a step beside the original's, and for the largest save beside a plain copy.
-bench:
+# A curve's plan on a real Slurm, where one answers.
+cluster-test: setup engine command
+	host/cluster-test
+
+# Time for a step beside the original's, and for the largest save beside a plain copy; a curve's stepping beside a run's.
+bench: setup
 	rt staticlib api
 	cd oracle && cargo run --release -p bench
+	host/cargo bench --quiet -p cichowiej-command --bench stepping
+
+# Is it physics? Slabs against the transfer matrix, the layer, a cavity, the mills' accident. It fails where a bound of docs/VALIDATION.md
+# is not met, or a table there is not the one computed.
+validate: setup engine
+	host/cargo run --release -p validate -- --check ../docs/VALIDATION.md

@@ -1,0 +1,233 @@
+//! A point's reading as a small file of text, from which every number comes back as it was.
+
+use crate::cli::sha256;
+use crate::curve::study::Reading;
+use cichowiej::{Complex, ENGINE, Layer};
+use serde::{Deserialize, Serialize};
+use std::sync::OnceLock;
+use std::{fs, io};
+use thiserror::Error;
+
+/// Why a point has no reading.
+#[derive(Debug, Error)]
+pub enum Unusable {
+    #[error("not there")]
+    Absent,
+    #[error("cannot be read: {0}")]
+    Unreadable(io::Error),
+    #[error("damaged")]
+    Damaged,
+    #[error("of another head, whose SHA-256 is {0}")]
+    OtherHead(String),
+    #[error("of another engine, {0}")]
+    OtherEngine(String),
+    #[error("of another build of this program")]
+    OtherProgram,
+    #[error("computed with other mathematical functions than the rest, on a machine of another kind")]
+    OtherMaths,
+    #[error("of another point, {0}")]
+    OtherPoint(usize),
+}
+
+/// A double as the 16 hexadecimal digits of its bits; every NaN as the same one.
+#[derive(Debug, Clone, Copy, Serialize, Deserialize)]
+#[serde(into = "String", try_from = "String")]
+struct Bits(f64);
+
+const NAN: u64 = 0x7ff8_0000_0000_0000;
+
+impl From<Bits> for String {
+    fn from(Bits(number): Bits) -> Self {
+        let bits = if number.is_nan() { NAN } else { number.to_bits() };
+        format!("{bits:016x}")
+    }
+}
+
+impl TryFrom<String> for Bits {
+    type Error = String;
+
+    fn try_from(digits: String) -> Result<Self, String> {
+        match u64::from_str_radix(&digits, 16) {
+            Ok(bits) if digits.len() == 16 => Ok(Self(f64::from_bits(bits))),
+            _ => Err(format!("{digits:?} is not 16 hexadecimal digits")),
+        }
+    }
+}
+
+/// Complex numbers as pairs, the real part first.
+type Sums = Vec<[Bits; 2]>;
+
+/// The file's keys.
+#[derive(Serialize, Deserialize)]
+#[serde(deny_unknown_fields)]
+struct Record {
+    engine: String,
+    /// The program's SHA-256, and that of what its mathematical functions give.
+    program: String,
+    maths: String,
+    /// The head's SHA-256.
+    input: String,
+    point: usize,
+    /// On x, y and z; neither is there where no layer was asked for.
+    layer_asked: Option<[bool; 3]>,
+    layer_active: Option<[bool; 3]>,
+    energy: Bits,
+    peak: Bits,
+    end: Bits,
+    transmitted: Sums,
+    incident: Sums,
+    reflected: Option<Sums>,
+}
+
+fn to_bits(sums: &[Complex]) -> Sums {
+    sums.iter().map(|sum| [Bits(sum.re), Bits(sum.im)]).collect()
+}
+
+fn from_bits(sums: &Sums) -> Vec<Complex> {
+    sums.iter().map(|[re, im]| Complex::new(re.0, im.0)).collect()
+}
+
+impl Record {
+    fn new(digest: &str, number: usize, reading: &Reading) -> Self {
+        Self {
+            engine: ENGINE.into(),
+            program: program(),
+            maths: maths(),
+            input: digest.into(),
+            point: number,
+            layer_asked: reading.layer.map(|layer| layer.asked),
+            layer_active: reading.layer.map(|layer| layer.active),
+            energy: Bits(reading.energy),
+            peak: Bits(reading.peak),
+            end: Bits(reading.end),
+            transmitted: to_bits(&reading.transmitted),
+            incident: to_bits(&reading.incident),
+            reflected: reading.reflected.as_deref().map(to_bits),
+        }
+    }
+
+    fn reading(&self) -> Reading {
+        Reading {
+            transmitted: from_bits(&self.transmitted),
+            reflected: self.reflected.as_ref().map(from_bits),
+            incident: from_bits(&self.incident),
+            energy: self.energy.0,
+            peak: self.peak.0,
+            end: self.end.0,
+            layer: self.layer_asked.zip(self.layer_active).map(|(asked, active)| Layer { asked, active }),
+        }
+    }
+}
+
+const TITLE: &str = "# A point of a curve: each number as the 16 hexadecimal digits of a double's bits. The last line has the SHA-256 of all above it.\n";
+
+/// The last line.
+fn seal(body: &str) -> String {
+    format!("sha256 = \"{}\"\n", sha256(body.as_bytes()))
+}
+
+/// The file's text.
+pub fn text(digest: &str, number: usize, reading: &Reading) -> Result<String, toml::ser::Error> {
+    let body = format!("{TITLE}{}", toml::to_string(&Record::new(digest, number, reading))?);
+    let seal = seal(&body);
+    Ok(body + &seal)
+}
+
+/// A reading, and what the mathematical functions of its machine give.
+#[derive(Debug)]
+pub struct Read {
+    pub reading: Reading,
+    pub maths: String,
+}
+
+/// The reading in a file, which has to be whole, and that of this engine, program, head and point.
+pub fn parse(bytes: &[u8], digest: &str, number: usize) -> Result<Read, Unusable> {
+    let record = whole(bytes).ok_or(Unusable::Damaged)?;
+    if record.input != digest {
+        return Err(Unusable::OtherHead(record.input));
+    }
+    if record.engine != ENGINE {
+        return Err(Unusable::OtherEngine(record.engine));
+    }
+    if record.program != program() {
+        return Err(Unusable::OtherProgram);
+    }
+    if record.point != number {
+        return Err(Unusable::OtherPoint(record.point));
+    }
+    Ok(Read { reading: record.reading(), maths: record.maths })
+}
+
+/// The SHA-256 of this program's file: sums and sampling are the program's, and not the engine's.
+fn program() -> String {
+    static DIGEST: OnceLock<String> = OnceLock::new();
+    let digest = || std::env::current_exe().and_then(fs::read).map_or("unknown".into(), |bytes| sha256(&bytes));
+    DIGEST.get_or_init(digest).clone()
+}
+
+/// The SHA-256 of what exp, sin, cos, ln and powf give here for many numbers. The system's library chooses them by processor, and their last bits differ.
+pub fn maths() -> String {
+    static DIGEST: OnceLock<String> = OnceLock::new();
+    let numbers = || {
+        let at = |i: u32| f64::from(i) * 0.37 + 0.001;
+        let five = |x: f64| [(-1e-3 * x).exp(), x.sin(), x.cos(), x.ln(), (1e-3 * x).powf(3.3)];
+        let bytes: Vec<u8> = (0..20_000).map(at).flat_map(five).flat_map(f64::to_le_bytes).collect();
+        sha256(&bytes)
+    };
+    DIGEST.get_or_init(numbers).clone()
+}
+
+/// None where the last line is not that of the text above it, or the text is no record.
+fn whole(bytes: &[u8]) -> Option<Record> {
+    let text = std::str::from_utf8(bytes).ok()?;
+    let (body, last) = text.split_at_checked(text.rfind("sha256 = ")?)?;
+    if last == seal(body) { toml::from_str(body).ok() } else { None }
+}
+
+#[cfg(test)]
+mod tests {
+    use super::*;
+
+    fn reading() -> Reading {
+        Reading {
+            transmitted: vec![Complex::new(0.1, -0.0), Complex::new(f64::INFINITY, 5e-324)],
+            reflected: None,
+            incident: vec![Complex::new(1.0 / 3.0, -1e300); 2],
+            energy: f64::NAN,
+            peak: -f64::NAN,
+            end: f64::MIN_POSITIVE,
+            layer: Some(Layer { asked: [true, false, true], active: [false, false, true] }),
+        }
+    }
+
+    #[test]
+    fn every_number_comes_back() {
+        let text = text("abc", 3, &reading()).unwrap();
+        assert!(text.contains("energy = \"7ff8000000000000\"\npeak = \"7ff8000000000000\"\n"), "{text}");
+        let back = parse(text.as_bytes(), "abc", 3).unwrap().reading;
+        let bits = |sums: &[Complex]| -> Vec<u64> { sums.iter().flat_map(|sum| [sum.re.to_bits(), sum.im.to_bits()]).collect() };
+        assert_eq!(bits(&back.transmitted), bits(&reading().transmitted));
+        assert_eq!(bits(&back.incident), bits(&reading().incident));
+        assert!(back.energy.is_nan() && back.peak.is_nan() && back.end == f64::MIN_POSITIVE);
+        assert_eq!((back.layer, back.reflected.is_none()), (reading().layer, true));
+    }
+
+    #[test]
+    fn a_byte_more_less_or_changed_is_damage() {
+        let text = text("abc", 3, &reading()).unwrap();
+        for at in 0..text.len() {
+            let mut bytes = text.as_bytes().to_vec();
+            assert!(matches!(parse(&bytes[..at], "abc", 3), Err(Unusable::Damaged)), "cut at {at}");
+            bytes[at] ^= 1;
+            assert!(matches!(parse(&bytes, "abc", 3), Err(Unusable::Damaged)), "changed at {at}");
+        }
+        assert!(matches!(parse((text + "\n").as_bytes(), "abc", 3), Err(Unusable::Damaged)));
+    }
+
+    #[test]
+    fn another_head_or_point_is_named() {
+        let text = text("abc", 3, &reading()).unwrap();
+        assert_eq!(parse(text.as_bytes(), "abd", 3).unwrap_err().to_string(), "of another head, whose SHA-256 is abc");
+        assert_eq!(parse(text.as_bytes(), "abc", 4).unwrap_err().to_string(), "of another point, 3");
+    }
+}

@@ -1,0 +1,207 @@
+//! One point of the curve: its study opened as the head's file says, run, and listened to.
+
+use crate::curve::plan::{Plan, Point};
+use crate::head::trouble::Trouble;
+use crate::head::{Edge, Wave, axes};
+use cichowiej::{Complex, Layer, MaterialId, PlaneSpectrum, Refusal, Study};
+use rayon::prelude::*;
+use std::collections::BTreeMap;
+use std::sync::atomic::{AtomicBool, Ordering};
+
+/// What a study gave, at each of the gauge's frequencies.
+#[derive(Debug, Clone)]
+pub struct Reading {
+    pub transmitted: Vec<Complex>,
+    pub reflected: Option<Vec<Complex>>,
+    pub incident: Vec<Complex>,
+    /// The energy in J that went through the plane behind the sheet.
+    pub energy: f64,
+    /// The field's energy in J at its largest, and at the end.
+    pub peak: f64,
+    pub end: f64,
+    pub layer: Option<Layer>,
+}
+
+/// Told how many steps were made; told to stop by the flag.
+pub struct Watch<'a> {
+    pub stop: &'a AtomicBool,
+    pub moved: &'a (dyn Fn(u64) + Sync),
+}
+
+/// Steps between two samples of the planes are never more, so that Ctrl-C is heard and the samples take little room.
+const LONGEST_STRIDE: usize = 4096;
+
+/// How often in a run the field's energy is looked at.
+const LOOKS: usize = 200;
+
+impl Plan<'_> {
+    /// The study of a point before its first step, and on which axes its layer works.
+    pub fn open(&self, point: &Point) -> Result<(Study, Option<Layer>), Trouble> {
+        let refused = |key: &'static str| move |refusal| Trouble::refused(key, refusal);
+        let mut study = Study::open(&self.grid).map_err(refused("grid"))?;
+        study.set_periodic(axes(&self.head.periodic)).map_err(refused("periodic"))?;
+        // the lossy edge overwrites every cell's conductivity, so that it comes before the materials
+        let layer = self.set_edge(&mut study).map_err(refused("edge"))?;
+        if point.boxes {
+            self.place_boxes(&mut study)?;
+        }
+        if let Some(sheet) = &point.sheet {
+            let id = study.add_material(&sheet.material).map_err(|refusal| Trouble::refused(&point.key, refusal))?;
+            study.assign_material_box(id, self.sheet).map_err(refused("sheet.cells"))?;
+        }
+        study.build_dispersion().map_err(refused("grid"))?;
+        self.set_wave(&mut study).map_err(refused("wave"))?;
+        Ok((study, layer))
+    }
+
+    /// Opens every study once, so that a refusal comes before the first step, and tells where the absorbing layer works.
+    pub fn check(&self) -> Result<Option<Layer>, Trouble> {
+        let layers: Result<Vec<Option<Layer>>, Trouble> = self.points.iter().map(|point| Ok(self.open(point)?.1)).collect();
+        Ok(layers?.first().copied().flatten())
+    }
+
+    /// Each named material once, and then the boxes in the file's order.
+    fn place_boxes(&self, study: &mut Study) -> Result<(), Trouble> {
+        let mut ids: BTreeMap<&str, MaterialId> = BTreeMap::new();
+        for (name, part) in &self.head.materials {
+            let added = study.add_material(&part.material());
+            ids.insert(name, added.map_err(|refusal| Trouble::refused(format!("materials.{name}"), refusal))?);
+        }
+        for (index, part) in self.head.boxes.iter().enumerate() {
+            let key = format!("boxes[{index}]");
+            let name = part.material.as_str();
+            let id =
+                ids.get(name).ok_or_else(|| Trouble::at(format!("{key}.material"), format!("there is no material {name:?}")))?;
+            study.assign_material_box(*id, part.cells.cell_box()).map_err(|refusal| Trouble::refused(key, refusal))?;
+        }
+        Ok(())
+    }
+
+    fn set_edge(&self, study: &mut Study) -> Result<Option<Layer>, Refusal> {
+        match &self.head.edge {
+            Edge::Layer(part) => study.set_boundary_cpml(&part.config()).map(Some),
+            Edge::Lossy(part) => study.set_boundary_lossy(part.thickness, part.order, part.sigma_max.0).map(|()| None),
+            // an axis that is not periodic ends in a conducting wall as it is
+            Edge::Conductor(_) => Ok(None),
+        }
+    }
+
+    fn set_wave(&self, study: &mut Study) -> Result<(), Refusal> {
+        match &self.head.wave {
+            Wave::Slab(part) => study.slab_z(part.k0, part.k1),
+            Wave::Injector(part) => study.injector_z(part.k0),
+            Wave::Box(part) => study.box_region(part.corners),
+        }
+    }
+
+    /// How many steps lie between two samples of the planes. A sum over samples at the rate r takes what the field has at r - f for a part at f, so that r is chosen
+    /// a quarter above f and the highest frequency that the source has or the grid carries, together. (The energy, which has the product of two fields, is then
+    /// whole for a field that has little in the upper half of its band.)
+    pub fn stride(&self) -> usize {
+        let gauge = self.frequencies.iter().copied().fold(0.0, f64::max);
+        let carried = self.grid.cutoff_frequency() / self.least_index();
+        let source = self.source.highest_frequency().unwrap_or(f64::INFINITY);
+        let rate = 1.25 * (source.min(carried).max(gauge) + gauge);
+        // a NaN and what is below 1 come to 1
+        ((1.0 / (rate * self.grid.dt)) as usize).clamp(1, LONGEST_STRIDE)
+    }
+
+    /// The refractive index of the fastest medium at high frequencies, the vacuum's or a lower one.
+    fn least_index(&self) -> f64 {
+        let sheets = self.points.iter().filter_map(|point| point.sheet.as_ref()).map(|sheet| sheet.material.clone());
+        let all = sheets.chain(self.materials().map(|(_, material)| material));
+        all.map(|material| (material.eps_inf * material.mu_r).sqrt()).fold(1.0, f64::min)
+    }
+
+    /// Runs a point; None where it was told to stop.
+    pub fn run(&self, point: &Point, watch: &Watch) -> Result<Option<Reading>, Trouble> {
+        let (mut study, layer) = self.open(point)?;
+        let mut listener = Listener::new(self);
+        let stride = self.stride();
+        let look = (self.steps / LOOKS / stride).max(1);
+        let (mut done, mut samples) = (0, 0);
+        while done < self.steps {
+            if watch.stop.load(Ordering::Relaxed) {
+                return Ok(None);
+            }
+            let count = stride.min(self.steps - done);
+            let source: Vec<f64> = self.source.samples(study.time(), self.grid.dt, done).take(count).collect();
+            study.run(&source).map_err(|refusal| Trouble::refused("run", refusal))?;
+            (done, samples) = (done + count, samples + 1);
+            // a shorter rest at the end is no sample: the sums are over equal times
+            if count == stride {
+                listener.take(&study).map_err(|refusal| Trouble::refused("planes", refusal))?;
+            }
+            if samples % look == 0 || done == self.steps {
+                listener.look(&study).map_err(|refusal| Trouble::refused("run", refusal))?;
+            }
+            (watch.moved)(count as u64);
+        }
+        Ok(Some(listener.reading(layer)))
+    }
+
+    /// All points, the empty head first, as many at a time as there are threads; None where it was told to stop.
+    pub fn readings(&self, watch: &Watch) -> Result<Option<Vec<Reading>>, Trouble> {
+        let all: Result<Vec<Option<Reading>>, Trouble> = self.points.par_iter().map(|point| self.run(point, watch)).collect();
+        Ok(all?.into_iter().collect())
+    }
+}
+
+/// The sums that are taken while a study runs.
+struct Listener {
+    transmitted: PlaneSpectrum,
+    reflected: Option<PlaneSpectrum>,
+    incident: PlaneSpectrum,
+    behind: usize,
+    between: f64,
+    energy: f64,
+    peak: f64,
+    end: f64,
+}
+
+impl Listener {
+    fn new(plan: &Plan) -> Self {
+        let planes = &plan.head.planes;
+        let between = plan.stride() as f64 * plan.grid.dt;
+        let spectrum = |k| PlaneSpectrum::new(k, &plan.frequencies, between);
+        Self {
+            transmitted: spectrum(planes.transmitted),
+            reflected: planes.reflected.map(spectrum),
+            incident: spectrum(planes.transmitted),
+            behind: planes.transmitted,
+            between,
+            energy: 0.0,
+            peak: 0.0,
+            end: 0.0,
+        }
+    }
+
+    fn take(&mut self, study: &Study) -> Result<(), Refusal> {
+        self.transmitted.take(study);
+        if let Some(spectrum) = &mut self.reflected {
+            spectrum.take(study);
+        }
+        self.incident.add(study.incident(self.behind).unwrap_or(0.0));
+        self.energy += study.plane_reading(self.behind)? * self.between;
+        Ok(())
+    }
+
+    fn look(&mut self, study: &Study) -> Result<(), Refusal> {
+        self.end = study.total_energy()?;
+        self.peak = self.peak.max(self.end);
+        Ok(())
+    }
+
+    fn reading(self, layer: Option<Layer>) -> Reading {
+        let sums = |spectrum: PlaneSpectrum| spectrum.sums().to_vec();
+        Reading {
+            transmitted: sums(self.transmitted),
+            reflected: self.reflected.map(sums),
+            incident: sums(self.incident),
+            energy: self.energy,
+            peak: self.peak,
+            end: self.end,
+            layer,
+        }
+    }
+}

@@ -1,0 +1,13 @@
+//! The program `cichowiej` as a library. A gauge head's file is read (`head`), a study is run for each moisture (`curve`), here or point by point on many machines
+//! (`cluster`), and the curve goes out as table, CSV, picture and page (`output`). A study as a text of calls is run by `script`; saves are kept in a folder
+//! (`standing`); `cli` has the command's words.
+
+pub mod cli;
+pub mod cluster;
+pub mod curve;
+pub mod doctor;
+pub mod head;
+pub mod man;
+pub mod output;
+pub mod script;
+pub mod standing;

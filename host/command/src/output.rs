@@ -1,0 +1,5 @@
+//! The curve for people and for their programs.
+
+pub mod page;
+pub mod picture;
+pub mod table;

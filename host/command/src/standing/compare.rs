@@ -1,0 +1,249 @@
+//! In which records and cells two saves differ, and by how much.
+
+use crate::standing::list::{counted, product};
+use crate::standing::records::{MATERIAL_LENGTH, Record, Shape, byte, count, double, records, short};
+
+/// The lines for two saves that the engine accepts.
+pub fn compare(first: &[u8], second: &[u8]) -> Option<String> {
+    if first == second {
+        return Some("the saves are equal\n".into());
+    }
+    let shapes = [Shape::of_save(first)?, Shape::of_save(second)?];
+    let (first, second) = (records(first)?, records(second)?);
+    let pairs = first.iter().zip(&second).filter(|(a, b)| a.payload != b.payload);
+    let mut lines: Vec<String> = pairs.flat_map(|(a, b)| differences(shapes, a, b)).collect();
+    if shapes[0].cells != shapes[1].cells {
+        let [a, b] = shapes.map(|shape| product(shape.cells));
+        lines.insert(0, format!("the sizes differ, {a} and {b} cells: what belongs to cells is not compared"));
+    }
+    Some(lines.iter().map(|line| format!("{line}\n")).collect())
+}
+
+fn differences(shapes: [Shape; 2], a: &Record, b: &Record) -> Vec<String> {
+    let mark = a.mark;
+    let found = match mark {
+        "GH" => fields(a.payload, b.payload),
+        "ML" => materials(a.payload, b.payload),
+        _ if shapes[0].cells != shapes[1].cells => vec![],
+        // poles, with another number of slots
+        _ if a.payload.len() != b.payload.len() => vec!["not compared: the numbers of pole slots differ".into()],
+        "CI" => numbers(shapes[0], mark, ids(a.payload).zip(ids(b.payload))),
+        _ => numbers(shapes[0], mark, doubles(a.payload).zip(doubles(b.payload))),
+    };
+    found.iter().map(|line| format!("{mark}  {line}")).collect()
+}
+
+/// How a field of the first record is written.
+#[derive(Clone, Copy)]
+enum Kind {
+    Byte,
+    Flag,
+    Region,
+    Short,
+    Count,
+    Double,
+}
+
+/// The first record's fields and where they begin.
+const FIELDS: [(&str, usize, Kind); 26] = [
+    ("nx", 0, Kind::Short),
+    ("ny", 2, Kind::Short),
+    ("nz", 4, Kind::Short),
+    ("periodic along x", 6, Kind::Flag),
+    ("periodic along y", 7, Kind::Flag),
+    ("periodic along z", 8, Kind::Flag),
+    ("layer works on x", 9, Kind::Flag),
+    ("layer works on y", 10, Kind::Flag),
+    ("layer works on z", 11, Kind::Flag),
+    ("layer on", 12, Kind::Flag),
+    ("materials whose poles act", 13, Kind::Byte),
+    ("pole slots", 14, Kind::Byte),
+    ("materials", 15, Kind::Byte),
+    ("region", 16, Kind::Region),
+    ("i0", 17, Kind::Short),
+    ("i1", 19, Kind::Short),
+    ("j0", 21, Kind::Short),
+    ("j1", 23, Kind::Short),
+    ("k0", 25, Kind::Short),
+    ("k1", 27, Kind::Short),
+    ("dx", 29, Kind::Double),
+    ("dy", 37, Kind::Double),
+    ("dz", 45, Kind::Double),
+    ("dt", 53, Kind::Double),
+    ("time", 61, Kind::Double),
+    ("steps", 69, Kind::Count),
+];
+
+fn written(payload: &[u8], at: usize, kind: Kind) -> Option<String> {
+    let named = |names: &[&str], number: usize| names.get(number).map_or(number.to_string(), |name| name.to_string());
+    match kind {
+        Kind::Byte => byte(payload, at).map(|number| number.to_string()),
+        Kind::Flag => byte(payload, at).map(|number| named(&["no", "yes"], number)),
+        Kind::Region => byte(payload, at).map(|number| named(&["none", "slab", "injector", "box"], number)),
+        Kind::Short => short(payload, at).map(|number| number.to_string()),
+        Kind::Count => count(payload, at).map(|number| number.to_string()),
+        Kind::Double => double(payload, at).map(|number| format!("{number:?}")),
+    }
+}
+
+fn fields(a: &[u8], b: &[u8]) -> Vec<String> {
+    let both = FIELDS.iter().filter_map(|(name, at, kind)| Some((name, written(a, *at, *kind)?, written(b, *at, *kind)?)));
+    both.filter(|(_, a, b)| a != b).map(|(name, a, b)| format!("{name}: {a} and {b}")).collect()
+}
+
+fn materials(a: &[u8], b: &[u8]) -> Vec<String> {
+    let (a, b) = (a.as_chunks::<MATERIAL_LENGTH>().0, b.as_chunks::<MATERIAL_LENGTH>().0);
+    let line = |nth: usize| match (a.get(nth), b.get(nth)) {
+        (Some(a), Some(b)) if a == b => None,
+        (Some(a), Some(b)) => Some(format!("material {nth}: {}", material(a, b))),
+        (Some(_), None) => Some(format!("material {nth}: in the first save alone")),
+        (None, _) => Some(format!("material {nth}: in the second save alone")),
+    };
+    (0..a.len().max(b.len())).filter_map(line).collect()
+}
+
+/// What differs in a material: numbers, then poles.
+fn material(a: &[u8], b: &[u8]) -> String {
+    let parts = [("eps_inf", 0), ("sigma", 8), ("mu_r", 16)];
+    let of_numbers = parts.map(|(name, at)| (name.to_string(), written(a, at, Kind::Double), written(b, at, Kind::Double)));
+    let of_poles = [0, 1, 2, 3].map(|place| (format!("pole {place}"), pole(a, place), pole(b, place)));
+    let all = of_numbers.into_iter().chain(of_poles).filter(|(_, a, b)| a != b);
+    all.map(|(name, a, b)| format!("{name} {} and {}", a.unwrap_or_default(), b.unwrap_or_default()))
+        .collect::<Vec<_>>()
+        .join("; ")
+}
+
+/// As Debye(2.0, 9e-12), its numbers in the order of `Pole`.
+fn pole(material: &[u8], place: usize) -> Option<String> {
+    let at = 25 + 25 * place;
+    let (name, length) = match byte(material, at)? {
+        1 => ("Lorentz", 3),
+        2 => ("Drude", 2),
+        3 => ("Debye", 2),
+        _ => return Some("none".into()),
+    };
+    let numbers = (0..length).map(|nth| double(material, at + 1 + 8 * nth).map(|number| format!("{number:?}")));
+    Some(format!("{name}({})", numbers.collect::<Option<Vec<_>>>()?.join(", ")))
+}
+
+fn ids(payload: &[u8]) -> impl Iterator<Item = f64> + '_ {
+    payload.as_chunks().0.iter().map(|bytes| f64::from(u32::from_le_bytes(*bytes)))
+}
+
+fn doubles(payload: &[u8]) -> impl Iterator<Item = f64> + '_ {
+    payload.as_chunks().0.iter().map(|bytes| f64::from_le_bytes(*bytes))
+}
+
+/// Two numbers that differ, and where they stand in their record.
+#[derive(Clone, Copy)]
+struct Pair {
+    index: usize,
+    a: f64,
+    b: f64,
+}
+
+impl Pair {
+    /// A number and none are as far apart as can be.
+    fn distance(&self) -> f64 {
+        let distance = (self.a - self.b).abs();
+        if distance.is_nan() { f64::INFINITY } else { distance }
+    }
+
+    fn text(&self, shape: Shape, mark: &str) -> String {
+        let place = shape.place(mark, self.index);
+        // a material's number is a whole one
+        let values = if mark == "CI" { format!("{} and {}", self.a, self.b) } else { format!("{:?} and {:?}", self.a, self.b) };
+        format!("{place}, {values}, by {:e}", self.distance())
+    }
+}
+
+/// How many differ, the two that are farthest apart and the first two. +0.0 and -0.0 differ, by 0.
+fn numbers(shape: Shape, mark: &str, pairs: impl Iterator<Item = (f64, f64)>) -> Vec<String> {
+    let (mut all, mut differ) = (0, 0);
+    let mut ends: Option<(Pair, Pair)> = None;
+    for (index, (a, b)) in pairs.enumerate() {
+        all += 1;
+        if a.to_bits() != b.to_bits() {
+            differ += 1;
+            let pair = Pair { index, a, b };
+            let (first, most) = ends.unwrap_or((pair, pair));
+            ends = Some((first, if pair.distance() > most.distance() { pair } else { most }));
+        }
+    }
+    let line = |(first, most): (Pair, Pair)| {
+        let (first, most) = (first.text(shape, mark), most.text(shape, mark));
+        format!("{differ} of {} differ; most: {most}; first: {first}", counted(all, "number"))
+    };
+    ends.map(line).into_iter().collect()
+}
+
+#[cfg(test)]
+mod tests {
+    use super::*;
+    use cichowiej::{CellBox, Grid, Material, Pole, Study};
+
+    fn open(cells: [usize; 3], pole_slots: usize) -> Study {
+        Study::open(&Grid { cells, pitch: [1e-3; 3], dt: 1e-12, pole_slots }).unwrap()
+    }
+
+    fn compared(a: &Study, b: &Study) -> Vec<String> {
+        let text = compare(&a.save().unwrap(), &b.save().unwrap()).unwrap();
+        text.lines().map(str::to_string).collect()
+    }
+
+    #[test]
+    fn a_box_is_found_in_its_cells() {
+        let (a, mut b) = (open([2, 3, 4], 0), open([2, 3, 4], 0));
+        b.set_material(CellBox { x: (1, 2), y: (2, 3), z: (1, 4) }, 1.0, 1.0, 0.5).unwrap();
+        b.set_material(CellBox { x: (1, 2), y: (2, 3), z: (2, 3) }, 1.0, 1.0, -2.0).unwrap();
+        let line = "CM  3 of 72 numbers differ; most: sigma at (1, 2, 2), 0.0 and -2.0, by 2e0; first: sigma at (1, 2, 1), 0.0 and 0.5, by 5e-1";
+        assert_eq!(compared(&a, &b), [line]);
+        b.set_material(CellBox { x: (1, 2), y: (2, 3), z: (3, 4) }, 1.0, 1.0, f64::NAN).unwrap();
+        assert!(compared(&a, &b)[0].contains("most: sigma at (1, 2, 3), 0.0 and NaN, by inf;"), "{:?}", compared(&a, &b));
+        let mut c = open([2, 3, 4], 0);
+        c.set_material(CellBox { x: (0, 1), y: (0, 1), z: (0, 1) }, 1.0, 1.0, -0.0).unwrap();
+        assert!(compared(&a, &c)[0].contains("1 of 72 numbers differ; most: sigma at (0, 0, 0), 0.0 and -0.0, by 0e0"));
+        assert_eq!(compared(&b, &b.clone()), ["the saves are equal"]);
+    }
+
+    #[test]
+    fn fields_and_materials_are_named() {
+        let (mut a, mut b) = (open([1, 1, 9], 1), open([1, 1, 9], 1));
+        a.add_material(&Material::plain(2.0)).unwrap();
+        b.add_material(&Material::plain(3.0).with_pole(Pole::Debye { delta_eps: 2.0, tau: 9e-12 })).unwrap();
+        let drude = b.add_material(&Material::plain(4.0)).unwrap();
+        b.assign_material_halfspace_z(drude, 7).unwrap();
+        b.set_periodic([true, false, false]).unwrap();
+        b.slab_z(2, 5).unwrap();
+        b.run(&[1.0, 2.0]).unwrap();
+        let lines = compared(&a, &b);
+        let expected = [
+            "GH  periodic along x: no and yes",
+            "GH  materials: 2 and 3",
+            "GH  region: none and slab",
+            "GH  k0: 0 and 2",
+            "GH  k1: 0 and 5",
+            "GH  time: 0.0 and 2e-12",
+            "GH  steps: 0 and 2",
+            "ML  material 1: eps_inf 2.0 and 3.0; pole 0 none and Debye(2.0, 9e-12)",
+            "ML  material 2: in the second save alone",
+            "CI  2 of 9 numbers differ; most: material at (0, 0, 7), 0 and 2, by 2e0; first: material at (0, 0, 7), 0 and 2, by 2e0",
+        ];
+        assert_eq!(lines[..10], expected);
+        assert!(
+            lines.last().unwrap().starts_with("AX  ") && lines.last().unwrap().contains("ex of the incident wave at k = -18")
+        );
+    }
+
+    #[test]
+    fn other_sizes_leave_the_first_two_records() {
+        let lines = compared(&open([1, 1, 9], 1), &open([1, 9, 1], 1));
+        assert_eq!(lines.len(), 3, "{lines:?}");
+        assert!(lines[0].contains("1x1x9 and 1x9x1") && lines[1] == "GH  ny: 1 and 9" && lines[2] == "GH  nz: 9 and 1");
+        let mut more = open([1, 1, 9], 2);
+        more.set_material(CellBox::planes(3, 4), 2.0, 1.0, 0.0).unwrap();
+        let lines = compared(&open([1, 1, 9], 1), &more);
+        assert!(lines[0] == "GH  pole slots: 1 and 2" && lines[1].starts_with("CM  1 of 27"), "{lines:?}");
+        assert_eq!(lines[2..], ["PP  not compared: the numbers of pole slots differ"]);
+    }
+}

@@ -1,0 +1,137 @@
+//! The note beside a save: what it is called, when it was kept and what it grew from, with the save's sizes.
+
+use crate::head::trouble::Trouble;
+use crate::standing::{date, is_digest};
+use cichowiej::Study;
+use serde::{Deserialize, Serialize};
+
+#[derive(Debug, Clone, PartialEq, Serialize, Deserialize)]
+#[serde(deny_unknown_fields)]
+pub struct Note {
+    #[serde(skip_serializing_if = "Option::is_none")]
+    pub label: Option<String>,
+    /// When, as `date` writes it.
+    pub kept: String,
+    /// The digest of another save.
+    #[serde(skip_serializing_if = "Option::is_none")]
+    pub grew_from: Option<String>,
+    pub cells: [usize; 3],
+    pub pole_slots: usize,
+    pub materials: usize,
+    pub steps: usize,
+    /// In s.
+    pub time: f64,
+    pub bytes: usize,
+}
+
+/// What a person says of a save.
+#[derive(Debug, Clone, Default)]
+pub struct Words {
+    pub label: Option<String>,
+    pub grew_from: Option<String>,
+}
+
+impl Note {
+    /// Of a study whose save has so many bytes.
+    pub fn new(study: &Study, bytes: usize, kept: String, words: Words) -> Self {
+        let grid = study.grid();
+        Self {
+            label: words.label,
+            kept,
+            grew_from: words.grew_from,
+            cells: grid.cells,
+            pole_slots: grid.pole_slots,
+            materials: study.material_count(),
+            steps: study.steps() as usize,
+            time: study.time(),
+            bytes,
+        }
+    }
+
+    pub fn parse(text: &str) -> Result<Self, Trouble> {
+        let value: toml::Value = toml::from_str(text).map_err(|error| Trouble::of_text(&error, text))?;
+        let note: Self = serde_path_to_error::deserialize(value)
+            .map_err(|error| Trouble::of_value(&error.path().to_string(), &error.inner().to_string()))?;
+        if date::seconds(&note.kept).is_none() {
+            return Err(Trouble::at("kept", "this is no time as 2026-11-16T11:50:00Z"));
+        }
+        if note.grew_from.as_deref().is_some_and(|id| !is_digest(id)) {
+            return Err(Trouble::at("grew_from", "this is no SHA-256 in 64 hexadecimal digits"));
+        }
+        Ok(note)
+    }
+
+    /// The first number that is not the save's.
+    pub fn disagreement(&self, study: &Study, bytes: usize) -> Option<String> {
+        let of_save = Self::new(study, bytes, String::new(), Words::default());
+        let mut pairs = self.numbers().into_iter().zip(of_save.numbers());
+        let ((name, noted), (_, found)) = pairs.find(|(noted, found)| noted != found)?;
+        Some(format!("{name} is {noted} here and {found} in the save"))
+    }
+
+    /// As texts, so that one NaN is the other's equal.
+    fn numbers(&self) -> [(&'static str, String); 6] {
+        [
+            ("cells", format!("{:?}", self.cells)),
+            ("pole_slots", self.pole_slots.to_string()),
+            ("materials", self.materials.to_string()),
+            ("steps", self.steps.to_string()),
+            ("time", format!("{:?}", self.time)),
+            ("bytes", self.bytes.to_string()),
+        ]
+    }
+}
+
+/// A text on one line of a terminal, whatever is in it.
+pub fn plain(text: &str) -> String {
+    let shown = |c: char| if c.is_control() { c.escape_default().to_string() } else { c.to_string() };
+    text.chars().map(shown).collect()
+}
+
+#[cfg(test)]
+mod tests {
+    use super::*;
+    use cichowiej::Grid;
+
+    fn note(label: &str, time: f64) -> Note {
+        let study = Study::open(&Grid { cells: [1, 2, 3], pitch: [1e-3; 3], dt: 1e-12, pole_slots: 0 }).unwrap();
+        let words = Words { label: Some(label.into()), grew_from: Some("ab".repeat(32)) };
+        Note { time, ..Note::new(&study, 5000, date::text(951_782_400), words) }
+    }
+
+    #[test]
+    fn what_is_written_reads_back() {
+        for label in ["wet", "", "\"quoted\" = [x]\n# y", "tab\t, bell\u{7}, '''", "Feuchte 7 %, żółć", "\\", "\r\n"] {
+            for time in [0.0, -0.0, 1.9258e-12, 1e300, 0.1, f64::INFINITY] {
+                let note = note(label, time);
+                let text = toml::to_string(&note).unwrap();
+                let again = Note::parse(&text).unwrap();
+                assert!(again == note && again.numbers() == note.numbers(), "{text}");
+            }
+        }
+        let endless = note("", f64::NAN);
+        assert_eq!(Note::parse(&toml::to_string(&endless).unwrap()).unwrap().numbers(), endless.numbers());
+    }
+
+    #[test]
+    fn faults_are_found_on_their_lines() {
+        let good = toml::to_string(&note("wet", 0.5)).unwrap();
+        let fault = |old: &str, new: &str| {
+            assert_eq!(good.matches(old).count(), 1, "{old} in {good}");
+            let text = good.replace(old, new);
+            Note::parse(&text).unwrap_err().located("n.toml", &text)
+        };
+        assert!(fault("2000-02-29", "2001-02-29").starts_with("n.toml:2: kept: "));
+        assert!(fault("\"abab", "\"Abab").starts_with("n.toml:3: grew_from: "));
+        assert!(fault("steps = 0", "steps = -1").starts_with("n.toml:7: steps: "));
+        assert!(fault("steps = 0", "stesp = 0").contains("stesp"));
+        assert!(fault("steps = 0", "").contains("steps"));
+        assert!(fault("[1, 2, 3]", "[1, 2]").starts_with("n.toml:4: cells"));
+        assert!(fault("steps = 0", "steps =").starts_with("n.toml:7: "));
+    }
+
+    #[test]
+    fn a_label_stays_on_its_line() {
+        assert_eq!(plain("a\nb\u{1b}[2Jc\u{9b}d żółć"), "a\\nb\\u{1b}[2Jc\\u{9b}d żółć");
+    }
+}

@@ -1,0 +1,179 @@
+//! A save's records, and what each of their numbers is (document 01, "The save").
+
+/// In their order.
+pub const MARKS: [&str; 11] = ["GH", "ML", "CI", "CM", "FE", "FH", "LE", "LH", "LT", "PP", "AX"];
+
+const GRID_LENGTH: usize = 73;
+/// The first record with its frame.
+pub const FIRST_RECORD: u64 = 6 + GRID_LENGTH as u64;
+pub const MATERIAL_LENGTH: usize = 125;
+/// The places of the wave's line below the first plane, and above the last.
+const LINE_PAD: usize = 24;
+
+/// A record: its mark and its payload.
+#[derive(Debug, Clone, Copy)]
+pub struct Record<'a> {
+    pub mark: &'static str,
+    pub payload: &'a [u8],
+}
+
+/// The records of a save; None where it is none.
+pub fn records(save: &[u8]) -> Option<Vec<Record<'_>>> {
+    let mut rest = save;
+    MARKS.iter().map(|mark| take(mark, &mut rest)).collect()
+}
+
+fn take<'a>(mark: &'static str, rest: &mut &'a [u8]) -> Option<Record<'a>> {
+    let after = rest.strip_prefix(mark.as_bytes())?;
+    let (length, after) = after.split_first_chunk::<4>()?;
+    let (payload, after) = after.split_at_checked(u32::from_le_bytes(*length) as usize)?;
+    *rest = after;
+    Some(Record { mark, payload })
+}
+
+fn bytes_at<const N: usize>(payload: &[u8], at: usize) -> Option<[u8; N]> {
+    payload.get(at..)?.first_chunk().copied()
+}
+
+pub fn double(payload: &[u8], at: usize) -> Option<f64> {
+    bytes_at(payload, at).map(f64::from_le_bytes)
+}
+
+pub fn count(payload: &[u8], at: usize) -> Option<u32> {
+    bytes_at(payload, at).map(u32::from_le_bytes)
+}
+
+pub fn short(payload: &[u8], at: usize) -> Option<usize> {
+    bytes_at(payload, at).map(|bytes| usize::from(u16::from_le_bytes(bytes)))
+}
+
+pub fn byte(payload: &[u8], at: usize) -> Option<usize> {
+    payload.get(at).map(|byte| usize::from(*byte))
+}
+
+/// What the first record says of the others.
+#[derive(Debug, Clone, Copy, PartialEq, Eq)]
+pub struct Shape {
+    pub cells: [usize; 3],
+    pub pole_slots: usize,
+    pub steps: usize,
+}
+
+impl Shape {
+    /// From a save or its beginning.
+    pub fn of_save(save: &[u8]) -> Option<Self> {
+        let grid = take("GH", &mut &*save)?.payload;
+        if grid.len() != GRID_LENGTH {
+            return None;
+        }
+        let cells = [short(grid, 0)?, short(grid, 2)?, short(grid, 4)?];
+        Some(Self { cells, pole_slots: byte(grid, 14)?, steps: count(grid, 69)? as usize })
+    }
+
+    /// What number `index` of a record is, and of which cell.
+    pub fn place(&self, mark: &str, index: usize) -> String {
+        match mark {
+            "LT" => self.table_place(index),
+            "AX" => self.line_place(index),
+            _ => self.cell_place(mark, index),
+        }
+    }
+
+    fn cell_place(&self, mark: &str, index: usize) -> String {
+        // an accepted save has no side of 0
+        let [nx, ny, nz] = self.cells.map(|n| n.max(1));
+        let all = nx * ny * nz;
+        let cell = index % all;
+        let (i, j, k) = (cell % nx, cell / nx % ny, cell / (nx * ny));
+        format!("{} at ({i}, {j}, {k})", self.part(mark, index / all))
+    }
+
+    fn part(&self, mark: &str, part: usize) -> String {
+        let names: &[&str] = match mark {
+            "CI" => &["material"],
+            "CM" => &["eps_r", "mu_r", "sigma"],
+            "FE" => &["ex", "ey", "ez"],
+            "FH" => &["hx", "hy", "hz"],
+            "LE" => &["psi_exy", "psi_exz", "psi_eyz", "psi_eyx", "psi_ezx", "psi_ezy"],
+            "LH" => &["psi_hxy", "psi_hxz", "psi_hyz", "psi_hyx", "psi_hzx", "psi_hzy"],
+            _ => return self.pole_part(part),
+        };
+        names.get(part).map_or_else(|| format!("part {part}"), |name| name.to_string())
+    }
+
+    /// The polarization by slot and component, that of the step before alike, and then the change of all slots together.
+    fn pole_part(&self, part: usize) -> String {
+        let axis = ["x", "y", "z"].get(part % 3).copied().unwrap_or("");
+        let slot = part / 3;
+        if slot < self.pole_slots {
+            format!("p{axis} of pole {slot}")
+        } else if slot < 2 * self.pole_slots {
+            format!("p{axis} a step before of pole {}", slot - self.pole_slots)
+        } else {
+            format!("dp{axis}")
+        }
+    }
+
+    fn table_place(&self, index: usize) -> String {
+        let mut index = index;
+        for ((axis, letter), n) in ["x", "y", "z"].into_iter().zip(["i", "j", "k"]).zip(self.cells) {
+            if let Some(name) = index.checked_div(n).and_then(|part| TABLES.get(part)) {
+                return format!("{name} of {axis} at {letter} = {}", index % n);
+            }
+            index -= TABLES.len() * n;
+        }
+        format!("number {index} past the tables")
+    }
+
+    /// The line has planes below the grid's first one.
+    fn line_place(&self, index: usize) -> String {
+        let places = self.cells[2] + 2 * LINE_PAD;
+        let name = ["ex", "hy"].get(index / places).copied().unwrap_or("number");
+        let k = (index % places) as i64 - LINE_PAD as i64;
+        format!("{name} of the incident wave at k = {k}")
+    }
+}
+
+const TABLES: [&str; 6] = ["kinv_e", "b_e", "c_e", "kinv_h", "b_h", "c_h"];
+
+#[cfg(test)]
+mod tests {
+    use super::*;
+    use cichowiej::{Grid, Study};
+
+    #[test]
+    fn a_save_is_its_records() {
+        let grid = Grid { cells: [2, 3, 4], pitch: [1e-3; 3], dt: 1e-12, pole_slots: 2 };
+        let save = Study::open(&grid).unwrap().save().unwrap();
+        let found = records(&save).unwrap();
+        let (n, l) = (24, 9);
+        let lengths = [73, 125, 4 * n, 24 * n, 24 * n, 24 * n, 48 * n, 48 * n, 48 * l, 8 * (6 * 2 + 3) * n, 16 * (4 + 48)];
+        let payloads: Vec<usize> = found.iter().map(|record| record.payload.len()).collect();
+        assert_eq!(payloads, lengths);
+        assert_eq!(lengths.iter().sum::<usize>() + 6 * 11, save.len());
+        assert_eq!(Shape::of_save(&save), Some(Shape { cells: [2, 3, 4], pole_slots: 2, steps: 0 }));
+        for end in 0..save.len() {
+            assert!(records(&save[..end]).is_none());
+        }
+    }
+
+    #[test]
+    fn numbers_have_the_names_of_the_header() {
+        let shape = Shape { cells: [2, 3, 4], pole_slots: 2, steps: 0 };
+        let n = 24;
+        assert_eq!(shape.place("CI", 23), "material at (1, 2, 3)");
+        assert_eq!(shape.place("CM", 2 * n), "sigma at (0, 0, 0)");
+        assert_eq!(shape.place("FE", n + 2), "ey at (0, 1, 0)");
+        assert_eq!(shape.place("FH", 6 + 1), "hx at (1, 0, 1)");
+        assert_eq!(shape.place("LE", 3 * n), "psi_eyx at (0, 0, 0)");
+        assert_eq!(shape.place("PP", n), "py of pole 0 at (0, 0, 0)");
+        assert_eq!(shape.place("PP", 5 * n), "pz of pole 1 at (0, 0, 0)");
+        assert_eq!(shape.place("PP", 6 * n), "px a step before of pole 0 at (0, 0, 0)");
+        assert_eq!(shape.place("PP", 12 * n), "dpx at (0, 0, 0)");
+        assert_eq!(shape.place("LT", 1), "kinv_e of x at i = 1");
+        assert_eq!(shape.place("LT", 12), "kinv_e of y at j = 0");
+        assert_eq!(shape.place("LT", 12 + 18 + 4 * 5 + 3), "c_h of z at k = 3");
+        assert_eq!(shape.place("AX", 0), "ex of the incident wave at k = -24");
+        assert_eq!(shape.place("AX", 52 + 24 + 3), "hy of the incident wave at k = 3");
+    }
+}

@@ -1,0 +1,329 @@
+//! A curve's points run each for itself, and joined.
+
+mod common;
+
+use assert_cmd::cargo::cargo_bin;
+use cichowiej_command::cli::sha256;
+use common::{Folder, HEAD, with};
+use std::fs;
+use std::path::{Path, PathBuf};
+use std::process::{Command, Stdio};
+use std::thread::sleep;
+use std::time::Duration;
+
+const FILES: [&str; 3] = ["c.csv", "c.svg", "c.html"];
+
+/// Status, standard output and the three files of a curve; they are removed.
+fn made(folder: &Folder, words: &[&str]) -> (i32, String, Vec<Vec<u8>>) {
+    let (status, out, err) = folder.curve(&[&["--csv", "c.csv", "--svg", "c.svg", "--html", "c.html"], words].concat());
+    assert_eq!(err, "", "{words:?}");
+    let read = |name: &&str| {
+        let bytes = fs::read(folder.path(name)).unwrap();
+        fs::remove_file(folder.path(name)).unwrap();
+        bytes
+    };
+    (status, out, FILES.iter().map(read).collect())
+}
+
+/// The straight run and the gathered one are the same, also with --strict.
+fn gathered_as_straight(folder: &Folder, points: &str) {
+    for strict in [&[][..], &["--strict"]] {
+        let straight = made(folder, strict);
+        let gathered = made(folder, &[&["--gather", "--points", points], strict].concat());
+        assert!(straight == gathered, "{}\n{}", straight.1, gathered.1);
+    }
+}
+
+/// Runs a line by sh, in another folder than the head's.
+fn sh(line: &str) {
+    let out = Command::new("sh").args(["-c", line]).current_dir("/").output().unwrap();
+    let told = String::from_utf8(out.stdout).unwrap();
+    assert!(out.status.success() && out.stderr.is_empty() && told.lines().count() == 1, "{line}: {told}");
+}
+
+/// The lines of `--plan parallel`.
+fn lines(folder: &Folder, points: &str) -> Vec<String> {
+    let (status, out, err) = folder.curve(&["--plan", "parallel", "--points", points]);
+    assert!(status == 0 && err.lines().count() == 1 && err.to_lowercase().starts_with("absorbing layer"), "{err}");
+    out.lines().map(String::from).collect()
+}
+
+/// All points, one after another.
+fn run_all(folder: &Folder, points: &str) {
+    lines(folder, points).iter().for_each(|line| sh(line));
+}
+
+/// The file of a point of the head in the folder.
+fn file(folder: &Folder, points: &str, number: usize) -> PathBuf {
+    let digest = sha256(&fs::read(folder.path("head.toml")).unwrap());
+    folder.path(points).join(format!("{}-{number}.toml", &digest[..16]))
+}
+
+fn names(folder: &Path) -> Vec<String> {
+    let mut names: Vec<String> =
+        fs::read_dir(folder).unwrap().map(|entry| entry.unwrap().file_name().into_string().unwrap()).collect();
+    names.sort();
+    names
+}
+
+#[test]
+fn lines_in_any_order_and_more_than_once_give_the_straight_runs_bytes() {
+    let folder = Folder::new(HEAD);
+    let points = "the mill's points";
+    let lines = lines(&folder, points);
+    assert_eq!(lines.len(), 3);
+    lines.iter().rev().for_each(|line| sh(line));
+    let read = |number| fs::read(file(&folder, points, number)).unwrap();
+    let before = [0, 1, 2].map(read);
+    sh(&lines[1]);
+    sh(&lines[0]);
+    assert!(before == [0, 1, 2].map(read));
+    assert_eq!(names(&folder.path(points)).len(), 3);
+    gathered_as_straight(&folder, points);
+}
+
+#[test]
+fn the_slurm_script_runs_the_point_of_its_task() {
+    let folder = Folder::new(HEAD);
+    let (status, script, err) = folder.curve(&["--plan", "slurm", "--points", "a b's"]);
+    assert_eq!((status, err.as_str()), (0, "absorbing layer: asked for on z, works on z\n"));
+    assert!(script.starts_with("#!/bin/sh\n#SBATCH ") && script.contains("\n#SBATCH --array=0-2\n"), "{script}");
+    fs::write(folder.path("job.sh"), script).unwrap();
+    let job = |task: Option<&str>| {
+        let mut command = Command::new("sh");
+        command.arg(folder.path("job.sh")).current_dir("/").stdout(Stdio::null()).stderr(Stdio::null());
+        command.env_remove("SLURM_ARRAY_TASK_ID").envs(task.map(|task| ("SLURM_ARRAY_TASK_ID", task)));
+        command.status().unwrap().success()
+    };
+    assert!(!job(None) && !job(Some("")) && !job(Some("3")));
+    assert!(!folder.path("a b's").exists());
+    assert!(["2", "0", "1"].into_iter().all(|task| job(Some(task))));
+    gathered_as_straight(&folder, "a b's");
+}
+
+/// What a person is told, the layer first: each point's number, name and command.
+#[test]
+fn the_list_has_number_name_and_command() {
+    let folder = Folder::new(HEAD);
+    let (status, out, err) = folder.curve(&["--plan", "list", "--points", "p"]);
+    assert_eq!((status, err.as_str()), (0, ""));
+    let commands = lines(&folder, "p");
+    let expected = ["   0  the empty head  ", "   1  moisture 5 %    ", "   2  moisture 10 %   "];
+    let expected = expected.iter().zip(&commands).map(|(name, command)| format!("{name}{command}\n"));
+    assert_eq!(out, "absorbing layer: asked for on z, works on z\n".to_string() + &expected.collect::<String>());
+    assert_eq!(names(&folder.path("")), ["head.toml"]);
+}
+
+/// Blanks, quotes and a shell's own marks in the names of program, head and folder.
+#[test]
+fn names_are_quoted() {
+    let outer = Folder::new(HEAD);
+    let odd = outer.path("it's \"a\" $HOME `x` * \\ {} & #");
+    fs::create_dir(&odd).unwrap();
+    fs::copy(outer.path("head.toml"), odd.join("-o 'h.toml")).unwrap();
+    fs::copy(cargo_bin("cichowiej"), odd.join("the program")).unwrap();
+    let run = |words: &[&str]| {
+        let mut command = Command::new(odd.join("the program"));
+        command.current_dir(&odd).args(["curve", "./-o 'h.toml"]).args(words);
+        String::from_utf8(command.output().unwrap().stdout).unwrap()
+    };
+    let lines = run(&["--plan", "parallel", "--points", "p 'q"]);
+    assert_eq!(lines.lines().count(), 3);
+    lines.lines().for_each(sh);
+    assert_eq!(names(&odd.join("p 'q")).len(), 3);
+    assert_eq!(run(&["--gather", "--points", "p 'q"]), run(&[]));
+    let (status, out, err) = outer.curve(&["--plan", "parallel", "--points", "a\nb"]);
+    assert!(status == 1 && out.is_empty() && err.contains("line break"), "{err}");
+}
+
+#[test]
+fn warnings_a_missing_layer_and_nan_are_the_straight_runs() {
+    let changes = [
+        ("thickness = 10", "thickness = 45", "ABSORBING LAYER MISSING ON z"),
+        ("steps = 3000", "steps = 300", "warning: steps too few"),
+        ("courant = 0.5", "courant = 1.9", "NaN"),
+        ("title = \"A test\"\n", "", "absorbing layer"),
+        ("reflected = 15\n", "", "absorbing layer"),
+    ];
+    for (old, new, word) in changes {
+        let folder = with(old, new);
+        run_all(&folder, "p");
+        let (_, out, _) = folder.curve(&["--gather", "--points", "p"]);
+        assert!(out.contains(word), "{word}: {out}");
+        gathered_as_straight(&folder, "p");
+    }
+}
+
+#[test]
+fn missing_points_are_named_with_their_commands() {
+    let folder = Folder::new(HEAD);
+    run_all(&folder, "p");
+    fs::remove_file(file(&folder, "p", 0)).unwrap();
+    fs::remove_file(file(&folder, "p", 2)).unwrap();
+    let (status, out, err) = folder.curve(&["--gather", "--points", "p", "--csv", "c.csv"]);
+    assert_eq!((status, out.as_str()), (1, ""));
+    assert!(err.contains("p: 2 of 3 points are missing") && !folder.path("c.csv").exists(), "{err}");
+    assert!(err.contains("\npoint 0, the empty head: ") && err.contains("\npoint 2, moisture 10 %: "), "{err}");
+    assert!(err.matches(": not there").count() == 2 && !err.contains("point 1"), "{err}");
+    let commands: Vec<&str> = err.lines().filter_map(|line| line.strip_prefix("  ")).collect();
+    assert_eq!(commands.len(), 2);
+    commands.into_iter().for_each(sh);
+    gathered_as_straight(&folder, "p");
+    let (status, _, err) = folder.curve(&["--gather", "--points", "nowhere"]);
+    assert!(status == 1 && err.contains("3 of 3 points are missing") && !folder.path("nowhere").exists(), "{err}");
+}
+
+/// The text with another word in it, and its last line right again.
+fn forged(text: &str, old: &str, new: &str) -> String {
+    let changed = text.replacen(old, new, 1);
+    assert!(changed != text, "{old}");
+    let body = &changed[..changed.rfind("sha256 = ").unwrap()];
+    format!("{body}sha256 = \"{}\"\n", sha256(body.as_bytes()))
+}
+
+#[test]
+fn files_that_are_not_the_points_are_named() {
+    let folder = Folder::new(HEAD);
+    run_all(&folder, "p");
+    let path = file(&folder, "p", 1);
+    let good = fs::read_to_string(&path).unwrap();
+    let digit = good.find("energy = \"").unwrap() + 12;
+    let mut changed = good.clone().into_bytes();
+    changed[digit] = if changed[digit] == b'0' { b'1' } else { b'0' };
+    let cases = [
+        (changed, "damaged"),
+        (good.as_bytes()[..good.len() / 2].to_vec(), "damaged"),
+        (Vec::new(), "damaged"),
+        (vec![0xff; 100], "damaged"),
+        (forged(&good, "reflected = ", "other = ").into(), "damaged"),
+        (forged(&good, "transmitted = [", "transmitted = [[\"0000000000000000\", \"0000000000000000\"], ").into(), "damaged"),
+        (forged(&good, "library ", "library 0").into(), "of another engine, cichowiej "),
+        (forged(&good, "input = \"", "input = \"0").into(), "of another head, "),
+        (fs::read(file(&folder, "p", 2)).unwrap(), "of another point, 2"),
+    ];
+    for (bytes, word) in cases {
+        fs::write(&path, bytes).unwrap();
+        let (status, out, err) = folder.curve(&["--gather", "--points", "p", "--csv", "c.csv"]);
+        assert!(status == 1 && out.is_empty() && !folder.path("c.csv").exists(), "{word}: {err}");
+        assert!(err.contains("1 of 3 points") && err.contains("point 1, moisture 5 %: p/"), "{err}");
+        assert!(err.contains(&format!("-1.toml: {word}")), "{word}: {err}");
+    }
+    fs::write(&path, good).unwrap();
+    gathered_as_straight(&folder, "p");
+}
+
+/// One folder for several heads; and a head that was changed has no points yet.
+#[test]
+fn heads_share_a_folder() {
+    let folder = Folder::new(HEAD);
+    run_all(&folder, "p");
+    fs::write(folder.path("head.toml"), HEAD.replace("percent = 5", "percent = 6")).unwrap();
+    let (status, _, err) = folder.curve(&["--gather", "--points", "p"]);
+    assert!(status == 1 && err.contains("3 of 3 points") && err.contains("point 1, moisture 6 %"), "{err}");
+    run_all(&folder, "p");
+    assert_eq!(names(&folder.path("p")).len(), 6);
+    gathered_as_straight(&folder, "p");
+    fs::write(folder.path("head.toml"), HEAD).unwrap();
+    gathered_as_straight(&folder, "p");
+}
+
+#[test]
+fn one_point_at_the_same_time_on_many_machines() {
+    let folder = Folder::new(HEAD);
+    let spawn = |number: usize| {
+        let mut command = folder.command();
+        command.args(["--point", &(number % 3).to_string(), "--points", "deep/er/p"]).stdout(Stdio::null()).spawn().unwrap()
+    };
+    let children: Vec<_> = (0..9).map(spawn).collect();
+    assert!(children.into_iter().all(|mut child| child.wait().unwrap().success()));
+    assert_eq!(names(&folder.path("deep/er/p")).len(), 3);
+    gathered_as_straight(&folder, "deep/er/p");
+}
+
+#[test]
+fn ctrl_c_leaves_no_point() {
+    let folder = with("steps = 3000", "steps = 400000000");
+    let mut child =
+        folder.command().args(["--point", "1", "--points", "p"]).stdout(Stdio::null()).stderr(Stdio::null()).spawn().unwrap();
+    sleep(Duration::from_millis(300));
+    assert!(Command::new("kill").args(["-INT", &child.id().to_string()]).status().unwrap().success());
+    assert_eq!(child.wait().unwrap().code(), Some(130));
+    assert_eq!(names(&folder.path("p")), [""; 0]);
+}
+
+#[test]
+fn folders_and_points_that_cannot_be_had_are_named() {
+    let folder = Folder::new(HEAD);
+    let (status, out, err) = folder.curve(&["--point", "3", "--points", "p"]);
+    assert_eq!((status, out.as_str()), (1, ""));
+    assert!(err.contains("head.toml: there is no point 3: it has 0 to 2"), "{err}");
+    let (status, _, err) = folder.curve(&["--point", "0", "--points", "head.toml"]);
+    assert!(status == 1 && err.contains("head.toml: "), "{err}");
+    run_all(&folder, "p");
+    let taken = file(&folder, "p", 0);
+    let (status, _, err) = folder.curve(&["--gather", "--points", "p", "--csv", taken.to_str().unwrap()]);
+    assert!(status == 1 && err.contains("named twice"), "{err}");
+    let refused = with("pitch = \"1 mm\"", "pitch = 0");
+    for words in [["--plan", "slurm"], ["--point", "0"], ["--strict", "--gather"]] {
+        let (status, out, err) = refused.curve(&[&words[..], &["--points", "p"]].concat());
+        assert_eq!((status, out.as_str()), (1, ""));
+        assert!(err.contains("head.toml:4: grid: refused as 2 BadSpacing"), "{err}");
+    }
+}
+
+#[test]
+fn misuse_ends_with_2() {
+    let folder = Folder::new(HEAD);
+    let misuses = [
+        "--plan slurm",
+        "--point 0",
+        "--gather",
+        "--points p",
+        "--plan list --gather --points p",
+        "--plan list --point 0 --points p",
+        "--point 0 --gather --points p",
+        "--plan parallel --jobs 2 --points p",
+        "--plan make --points p",
+        "--point x --points p",
+        "--point 0 --points p --csv c.csv",
+        "--plan slurm --points p --html c.html",
+    ];
+    for words in misuses {
+        let (status, out, _) = folder.curve(&words.split(' ').collect::<Vec<_>>());
+        assert_eq!((status, out.as_str()), (2, ""), "{words}");
+    }
+    assert_eq!(names(&folder.path("")), ["head.toml"]);
+}
+
+/// What a processor without fused multiplication would have the system's library choose. Where it makes no difference, there is nothing to try.
+const OTHER_KIND: (&str, &str) = ("GLIBC_TUNABLES", "glibc.cpu.hwcaps=-FMA,-AVX2");
+
+#[test]
+fn points_from_machines_of_two_kinds_are_named() {
+    let folder = Folder::new(HEAD);
+    run_all(&folder, "points");
+    let point = |number: &str| {
+        let mut command = folder.command();
+        let out = command.args(["--point", number, "--points", "points"]).env(OTHER_KIND.0, OTHER_KIND.1).output().unwrap();
+        assert!(out.status.success());
+    };
+    let before = fs::read(file(&folder, "points", 1)).unwrap();
+    point("1");
+    if fs::read(file(&folder, "points", 1)).unwrap() == before {
+        println!("NOT TRIED: the mathematical functions are the same without FMA");
+        return;
+    }
+    let (status, out, err) = folder.curve(&["--gather", "--points", "points"]);
+    assert_eq!((status, out.as_str()), (1, ""));
+    assert!(
+        err.contains("1 of 3 points are missing")
+            && err.contains("point 1, moisture 5 %")
+            && err.contains("other mathematical functions"),
+        "{err}"
+    );
+    // all of the other kind: a curve, with a note
+    point("0");
+    point("2");
+    let (status, out, err) = folder.curve(&["--gather", "--points", "points"]);
+    assert!(status == 0 && out.contains("moisture %") && err.contains("machines of another kind"), "{err}");
+}

@@ -1,0 +1,159 @@
+//! The command as a person would use it.
+
+mod common;
+
+use common::{Folder, HEAD, with};
+use std::fs;
+
+#[test]
+fn a_good_head_gives_table_csv_picture_and_page() {
+    let folder = Folder::new(HEAD);
+    let (status, out, err) = folder.curve(&["--csv", "c.csv", "--svg", "c.svg", "--html", "c.html", "--jobs", "1"]);
+    assert_eq!((status, err.as_str()), (0, ""));
+    assert!(out.starts_with("absorbing layer: asked for on z, works on z\n"), "{out}");
+    let csv = fs::read_to_string(folder.path("c.csv")).unwrap();
+    assert!(csv.starts_with("# absorbing layer: asked for on z, works on z\n"), "{csv}");
+    let rows: Vec<&str> = csv.lines().filter(|line| !line.starts_with('#')).collect();
+    assert_eq!(rows.len(), 3);
+    assert!(rows[1].starts_with("5.0,-"), "{csv}");
+    let svg = fs::read_to_string(folder.path("c.svg")).unwrap();
+    assert!(svg.contains("<svg") && svg.contains("A test") && svg.contains("works on z"));
+    let page = fs::read_to_string(folder.path("c.html")).unwrap();
+    assert!(page.contains("<svg") && page.contains("eps_inf = 2.0") && page.contains("SHA-256"));
+    assert!(!page.contains("http") || page.matches("http").count() == page.matches("http://www.w3.org").count());
+}
+
+#[test]
+fn as_many_threads_as_one_give_the_same_bytes() {
+    let folder = Folder::new(HEAD);
+    for jobs in ["1", "4"] {
+        assert_eq!(folder.curve(&["--jobs", jobs, "--csv", jobs]).0, 0);
+    }
+    assert_eq!(fs::read(folder.path("1")).unwrap(), fs::read(folder.path("4")).unwrap());
+}
+
+/// The accident: the layer asked for on an axis that is too thin for it.
+#[test]
+fn a_missing_layer_cannot_be_missed() {
+    let folder = with("thickness = 10", "thickness = 45");
+    let (status, out, _) = folder.curve(&["--csv", "c.csv", "--svg", "c.svg", "--html", "c.html"]);
+    assert_eq!(status, 0);
+    assert!(out.starts_with("ABSORBING LAYER MISSING ON z"), "{out}");
+    for file in ["c.csv", "c.svg", "c.html"] {
+        let text = fs::read_to_string(folder.path(file)).unwrap();
+        assert!(text.contains("ABSORBING LAYER MISSING ON z"), "{file}");
+    }
+    assert_eq!(folder.curve(&["--strict"]).0, 1);
+}
+
+/// Each change of the head, with the line and the key that the message has to name, and words that it has to have.
+fn refused(cases: &[(&str, &str, usize, &str, &str)]) {
+    for (old, new, line, key, word) in cases {
+        let (status, out, err) = with(old, new).curve(&[]);
+        assert_eq!((status, out.as_str()), (1, ""), "{new}: {err}");
+        assert!(err.contains(&format!("head.toml:{line}: {key}: ")) && err.contains(word), "{new}: {err}");
+    }
+}
+
+#[test]
+fn bad_lines_are_named() {
+    refused(&[
+        ("courant = 0.5", "courrant = 0.5", 7, "grid.courrant", "unknown field"),
+        ("pitch = \"1 mm\"", "pitch = \"1 GHz\"", 6, "grid.pitch", "\"GHz\" is no unit of a length"),
+        ("pitch = \"1 mm\"", "pitch = \"one mm\"", 6, "grid.pitch", "not a number with a unit"),
+        ("pitch = \"1 mm\"", "pitch = [1e-3, \"1 mm\", true]", 6, "grid.pitch[2]", "a length"),
+        ("pitch = \"1 mm\"", "pitch = [1, 2]", 6, "grid.pitch", "three"),
+        ("cells = [1, 1, 90]", "cells = [1, 90]", 5, "grid.cells", "array of length 3"),
+        ("courant = 0.5", "courant = 0.5\ndt = \"1 ps\"", 4, "grid", "one of the two"),
+        ("[wave.injector]", "[wave.rejector]", 13, "wave.rejector", "no such kind: take one of slab, injector, box"),
+        ("k0 = 20", "k0 = 20\nk1 = 30", 15, "wave.injector.k1", "unknown field"),
+        ("k0 = 20", "k0 = 20\n[wave.slab]\nk0 = 3\nk1 = 4", 13, "wave", "not two"),
+        ("axes = [\"z\"]", "axes = [\"y\", \"z\"]", 2, "periodic", "edge.layer.axes"),
+        ("frequencies = [\"8 GHz\", \"10 GHz\"]", "frequencies = [\"8 GHz\", \"8 mm\"]", 26, "gauge.frequencies[1]", "\"mm\""),
+        ("frequencies = [\"8 GHz\", \"10 GHz\"]", "frequencies = []", 26, "gauge.frequencies", "one or more"),
+        ("frequencies = [\"8 GHz\", \"10 GHz\"]", "frequencies = [0]", 26, "gauge.frequencies", "larger than 0"),
+        ("steps = 3000", "steps = -1", 29, "run.steps", "-1"),
+        ("steps = 3000", "steps = 3e3", 29, "run.steps", "expected a whole number, 0 or more"),
+        ("axes = [\"z\"]", "axes = \"z\"", 10, "edge.layer.axes", "expected a list in brackets"),
+        ("steps = 3000", "steps = 0", 29, "run.steps", "1 or more"),
+        ("tau = \"9 ps\"", "tua = \"9 ps\"", 40, "sheet.moisture[1].material.poles[0].debye.tua", "unknown field"),
+        ("[planes]", "[boxes]\n[planes]", 21, "boxes", "list in brackets"),
+        ("[planes]", "[[boxes]]\nmaterial = \"glass\"\ncells = {}\n[planes]", 22, "boxes[0].material", "no material \"glass\""),
+        ("percent = 5", "percent = nan", 35, "sheet.moisture[0].percent", "from 0 to 100"),
+        ("percent = 5", "", 34, "sheet.moisture[0]", "missing field `percent`"),
+    ]);
+}
+
+/// What would give a curve that is none.
+#[test]
+fn places_that_give_no_curve_are_named() {
+    refused(&[
+        ("transmitted = 70", "transmitted = 41", 22, "planes.transmitted", "behind the sheet, at 42 or above"),
+        ("[wave.injector]", "[wave.slab]\nk1 = 60", 23, "planes.transmitted", "at or below the wave's k1 = 60"),
+        ("reflected = 15", "reflected = 20", 23, "planes.reflected", "below the wave's k0 = 20"),
+        ("cells = { z = [40, 42] }", "cells = { z = [10, 42] }", 32, "sheet.cells", "k0 = 20"),
+        ("cells = { z = [40, 42] }", "cells = { z = [42, 42] }", 32, "sheet.cells", "have to be some"),
+    ]);
+}
+
+#[test]
+fn the_engines_refusals_name_the_line_whose_call_met_them() {
+    let many: String = (0..16).map(|i| format!("[materials.m{i:02}]\neps_inf = 2.0\n")).collect();
+    refused(&[
+        ("cells = [1, 1, 90]", "cells = [1, 1, 900]", 4, "grid", "1 BadSize"),
+        ("pitch = \"1 mm\"", "pitch = -1", 4, "grid", "2 BadSpacing"),
+        ("courant = 0.5", "courant = nan", 4, "grid", "2 BadSpacing"),
+        ("courant = 0.5", "courant = 0.5\npole_slots = 5", 4, "grid", "3 BadStudy"),
+        ("courant = 0.5", "courant = 0.5\npole_slots = 0", 39, "sheet.moisture[1]", "6 TooManyPoles"),
+        ("[planes]", &format!("{many}[planes]"), 51, "materials.m15", "5 Full"),
+        ("[wave.injector]", "[wave.slab]\nk1 = 90", 13, "wave", "9 BadRegion"),
+        ("transmitted = 70", "transmitted = 90", 22, "planes.transmitted", "17 NoSuchPlane"),
+        ("steps = 3000", "steps = 4294967296", 29, "run.steps", "11 SpentClock"),
+    ]);
+    let lossy = "[edge.lossy]\nthickness = 3\norder = 9\nsigma_max = 1";
+    refused(&[("[edge.layer]\naxes = [\"z\"]\nthickness = 10", lossy, 9, "edge", "10 BadOrder")]);
+}
+
+#[test]
+fn what_is_no_toml_is_named_with_its_line() {
+    let cases = [
+        ("steps = 3000", "steps = = 3000", ":29: "),
+        ("courant = 0.5", "courant = 0.5\ncourant = 0.6", ":8: duplicate key: `courant`"),
+        ("[run]", "[grid]\n[run]", ":28: "),
+        ("[run]\nsteps = 3000\n", "", ": missing field `run`"),
+        ("title = \"A test\"", "title = \"A test", ":1: "),
+    ];
+    for (old, new, words) in cases {
+        let (status, out, err) = with(old, new).curve(&[]);
+        assert!((status, out.as_str()) == (1, "") && err.contains(&format!("head.toml{words}")), "{new}: {err}");
+    }
+}
+
+/// A curve that is doubtful says why, in table, CSV and page.
+#[test]
+fn doubtful_curves_are_warned_of() {
+    let cases = [
+        ("steps = 3000", "steps = 300", "take more steps"),
+        ("courant = 0.5", "courant = 1.5", "the Courant number is 1.500"),
+        ("eps_inf = 2.0, sigma = 0.1", "eps_inf = 200.0, sigma = 0.1", "cells a wavelength in moisture 5 %"),
+        ("periodic = [\"x\", \"y\"]", "periodic = [\"x\"]", "not both periodic"),
+        ("transmitted = 70", "transmitted = 85", "in the absorbing layer"),
+        ("thickness = 10", "thickness = 10\nalpha_factor = 30", "absorbs little below"),
+        (
+            "[source.modulated]\nfrequency = \"10 GHz\"\nwidth = \"80 ps\"\ndelay = \"400 ps\"",
+            "[source.continuous]\nfrequency = \"10 GHz\"\nramp = \"400 ps\"",
+            "does not end",
+        ),
+    ];
+    for (old, new, word) in cases {
+        let folder = with(old, new);
+        let (status, out, err) = folder.curve(&["--csv", "c.csv", "--html", "c.html", "--svg", "c.svg"]);
+        assert_eq!((status, err.as_str()), (0, ""), "{new}");
+        let files =
+            ["c.csv", "c.html", "c.svg"].map(|file| fs::read_to_string(folder.path(file)).unwrap().replace("</text>", ""));
+        assert!(out.contains("warning: ") && out.contains(word), "{new}: {out}");
+        assert!(files[..2].iter().all(|text| text.contains(word)) && files[2].contains("warning"), "{new}");
+    }
+    let (_, out, _) = Folder::new(HEAD).curve(&[]);
+    assert!(!out.contains("warning"), "{out}");
+}

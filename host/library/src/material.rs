@@ -1,0 +1,89 @@
+//! Materials: what they answer at once, and their poles.
+
+use crate::bindings::cichowiej_eps0 as eps0;
+use crate::spectrum::Complex;
+use crate::stores::{MATERIAL_LENGTH, MAX_POLE_SLOTS};
+use std::f64::consts::PI;
+
+/// A pole of the permittivity. Angular frequencies and rates in rad/s, times in s.
+#[derive(Debug, Clone, Copy, PartialEq)]
+pub enum Pole {
+    Lorentz { delta_eps: f64, omega0: f64, gamma: f64 },
+    Drude { omega_p: f64, gamma: f64 },
+    Debye { delta_eps: f64, tau: f64 },
+}
+
+impl Pole {
+    /// What it adds to the relative permittivity at an angular frequency.
+    fn susceptibility(self, omega: f64) -> Complex {
+        let (strength, denominator) = match self {
+            Pole::Lorentz { delta_eps, omega0, gamma } => {
+                (delta_eps * omega0 * omega0, Complex::new(omega0 * omega0 - omega * omega, gamma * omega))
+            }
+            Pole::Drude { omega_p, gamma } => (omega_p * omega_p, Complex::new(-omega * omega, gamma * omega)),
+            Pole::Debye { delta_eps, tau } => (delta_eps, Complex::new(1.0, omega * tau)),
+        };
+        Complex::new(strength, 0.0) / denominator
+    }
+
+    /// Its tag in a save, and its numbers in the Rust's field order.
+    fn tagged(self) -> (u8, [f64; 3]) {
+        match self {
+            Pole::Lorentz { delta_eps, omega0, gamma } => (1, [delta_eps, omega0, gamma]),
+            Pole::Drude { omega_p, gamma } => (2, [omega_p, gamma, 0.0]),
+            Pole::Debye { delta_eps, tau } => (3, [delta_eps, tau, 0.0]),
+        }
+    }
+}
+
+/// A material: relative permittivity at high frequencies, conductivity in S/m, relative permeability, poles.
+#[derive(Debug, Clone, PartialEq)]
+pub struct Material {
+    pub eps_inf: f64,
+    pub sigma: f64,
+    pub mu_r: f64,
+    pub poles: Vec<Pole>,
+}
+
+impl Material {
+    /// One without loss and poles.
+    pub fn plain(eps_inf: f64) -> Self {
+        Self { eps_inf, sigma: 0.0, mu_r: 1.0, poles: Vec::new() }
+    }
+
+    pub fn with_sigma(mut self, sigma: f64) -> Self {
+        self.sigma = sigma;
+        self
+    }
+
+    pub fn with_pole(mut self, pole: Pole) -> Self {
+        self.poles.push(pole);
+        self
+    }
+
+    /// The relative permittivity at a frequency in Hz, the conductivity in it, for fields that go as exp(2πi f t): loss makes its imaginary part negative.
+    pub fn permittivity(&self, frequency: f64) -> Complex {
+        let omega = 2.0 * PI * frequency;
+        let loss = Complex::new(0.0, -self.sigma / (omega * eps0()));
+        let poles = self.poles.iter().map(|pole| pole.susceptibility(omega));
+        poles.fold(Complex::new(self.eps_inf, 0.0) + loss, |sum, chi| sum + chi)
+    }
+
+    /// As the engine takes it. There are four places; more poles are counted, so that the engine turns the material down.
+    pub(crate) fn bytes(&self) -> [u8; MATERIAL_LENGTH] {
+        let mut bytes = [0; MATERIAL_LENGTH];
+        let mut put = |at: usize, from: &[u8]| bytes[at..at + from.len()].copy_from_slice(from);
+        put(0, &self.eps_inf.to_le_bytes());
+        put(8, &self.sigma.to_le_bytes());
+        put(16, &self.mu_r.to_le_bytes());
+        put(24, &[u8::try_from(self.poles.len()).unwrap_or(u8::MAX)]);
+        for (place, pole) in self.poles.iter().take(MAX_POLE_SLOTS).enumerate() {
+            let (tag, numbers) = pole.tagged();
+            put(25 + 25 * place, &[tag]);
+            for (which, number) in numbers.iter().enumerate() {
+                put(26 + 25 * place + 8 * which, &number.to_le_bytes());
+            }
+        }
+        bytes
+    }
+}

@@ -1,0 +1,181 @@
+//! The library's calls: each refusal, what it leaves, saves, threads, the layer that is told.
+
+use cichowiej::{CellBox, CpmlConfig, Field, Grid, Material, Pole, REFUSALS, Refusal, Source, Study};
+use std::thread;
+
+fn grid(cells: [usize; 3]) -> Grid {
+    let pitch = [1e-3; 3];
+    Grid { cells, pitch, dt: 0.5 * Grid::largest_dt(pitch), pole_slots: 1 }
+}
+
+fn line(n: usize) -> Study {
+    Study::open(&grid([1, 1, n])).unwrap()
+}
+
+fn debye() -> Material {
+    Material::plain(5.0).with_pole(Pole::Debye { delta_eps: 10.0, tau: 1e-11 })
+}
+
+/// A refused call leaves every byte of the study.
+fn refused<T: std::fmt::Debug>(study: &mut Study, call: impl FnOnce(&mut Study) -> Result<T, Refusal>, refusal: Refusal) {
+    let before = study.save().unwrap();
+    assert_eq!(call(study).unwrap_err(), refusal);
+    assert!(study.save().unwrap() == before, "{refusal}: the study is another one");
+}
+
+#[test]
+fn openings_are_refused_for_their_first_fault() {
+    let open = |grid| Study::open(&grid).map(|_| ()).unwrap_err();
+    assert_eq!(open(grid([0, 1, 1])), Refusal::BadSize);
+    assert_eq!(open(grid([513, 1, 1])), Refusal::BadSize);
+    assert_eq!(open(grid([512, 512, 5])), Refusal::BadSize);
+    assert_eq!(open(grid([usize::MAX; 3])), Refusal::BadSize);
+    let mut flat = grid([1, 1, 1]);
+    flat.dt = 0.0;
+    assert_eq!(open(flat), Refusal::BadSpacing);
+    flat.dt = f64::NAN;
+    assert_eq!(open(flat), Refusal::BadSpacing);
+    let mut many = grid([1, 1, 1]);
+    many.pole_slots = usize::MAX;
+    assert_eq!(open(many), Refusal::BadStudy);
+}
+
+#[test]
+fn calls_are_refused_and_change_nothing() {
+    let mut study = line(30);
+    refused(&mut study, |s| s.set_boundary_tables([false, false, true], 3, &[0.0; 7]), Refusal::BadStore);
+    refused(&mut study, |s| s.slab_z(3, 30), Refusal::BadRegion);
+    refused(&mut study, |s| s.injector_z(usize::MAX), Refusal::BadRegion);
+    refused(&mut study, |s| s.box_region([0, 1, 0, 0, 0, 0]), Refusal::BadRegion);
+    refused(&mut study, |s| s.set_boundary_lossy(3, 9, 1.0), Refusal::BadOrder);
+    refused(&mut study, |s| s.plane_reading(30), Refusal::NoSuchPlane);
+    let two = debye().with_pole(Pole::Drude { omega_p: 1e9, gamma: 1e9 });
+    refused(&mut study, |s| s.add_material(&two), Refusal::TooManyPoles);
+    let five = (0..5).fold(Material::plain(1.0), |m, _| m.with_pole(Pole::Debye { delta_eps: 1.0, tau: 1.0 }));
+    refused(&mut study, |s| s.add_material(&five), Refusal::TooManyPoles);
+    let elsewhere = line(2).add_material(&debye()).unwrap();
+    refused(&mut study, |s| s.assign_material_box(elsewhere, CellBox::planes(0, 0)), Refusal::NoSuchMaterial);
+    study.add_material(&debye()).unwrap();
+    study.build_dispersion().unwrap();
+    let late = study.add_material(&debye()).unwrap();
+    study.assign_material_halfspace_z(late, 10).unwrap();
+    refused(&mut study, |s| s.step(1.0), Refusal::StaleMaterial);
+    refused(&mut study, |s| s.run(&[1.0, 2.0]), Refusal::StaleMaterial);
+    for _ in study.material_count()..16 {
+        study.add_material(&Material::plain(2.0)).unwrap();
+    }
+    refused(&mut study, |s| s.add_material(&Material::plain(2.0)), Refusal::Full);
+}
+
+#[test]
+fn saves_are_taken_up_and_damaged_ones_are_not() {
+    let mut study = line(12);
+    study.injector_z(3).unwrap();
+    study.run(&[1.0, 2.0, 3.0]).unwrap();
+    let save = study.save().unwrap();
+    let again = Study::from_save(&save).unwrap();
+    assert!(again.save().unwrap() == save && again.steps() == 3);
+    let mut other = line(5);
+    other.rewind(&save).unwrap();
+    assert!(other.save().unwrap() == save);
+    let damaged = |change: &dyn Fn(&mut Vec<u8>)| {
+        let mut bytes = save.clone();
+        change(&mut bytes);
+        Study::from_save(&bytes).map(|_| ()).unwrap_err()
+    };
+    assert_eq!(damaged(&|b| b.truncate(b.len() - 1)), Refusal::Short);
+    assert_eq!(damaged(&|b| b.clear()), Refusal::Short);
+    assert_eq!(damaged(&|b| b[0] = 0), Refusal::BadMark);
+    assert_eq!(damaged(&|b| b[12] = 7), Refusal::BadRecord);
+    assert_eq!(damaged(&|b| b.push(0)), Refusal::Trailing);
+    // the clock at its end: the steps are the last four bytes of GH
+    let mut spent = save.clone();
+    spent[75..79].fill(0xFF);
+    let mut spent = Study::from_save(&spent).unwrap();
+    refused(&mut spent, |s| s.step(0.0), Refusal::SpentClock);
+}
+
+#[test]
+fn refusals_have_document_01s_numbers_and_say_what_to_change() {
+    for (at, refusal) in REFUSALS.into_iter().enumerate() {
+        assert_eq!(refusal.number() as usize, at + 1);
+        let text = refusal.to_string();
+        assert!(text.starts_with(&format!("{} {}: ", at + 1, refusal.name())) && text.len() > 30, "{text}");
+    }
+}
+
+#[test]
+fn the_layer_says_where_it_works() {
+    let mut study = Study::open(&grid([1, 21, 22])).unwrap();
+    let layer = study.set_boundary_cpml(&CpmlConfig::default()).unwrap();
+    assert_eq!((layer.active, layer.missing()), ([false, false, true], [true, true, false]));
+    assert_eq!(study.active(), layer.active);
+    let nowhere = Grid { cells: [usize::MAX; 3], ..grid([1, 1, 1]) };
+    assert_eq!(cichowiej::tables(&nowhere, &CpmlConfig::default()), Err(Refusal::BadSize));
+    let huge = CpmlConfig { thickness: usize::MAX, ..CpmlConfig::default() };
+    assert_eq!(study.set_boundary_cpml(&huge).unwrap().active, [false; 3]);
+}
+
+#[test]
+fn studies_run_side_by_side_as_they_do_alone() {
+    fn is_sent<T: Send>() {}
+    is_sent::<Study>();
+    let run = |seed: usize| {
+        let mut study = line(60);
+        study.set_periodic([true, true, false]).unwrap();
+        study.set_boundary_cpml(&CpmlConfig { axes: [false, false, true], ..CpmlConfig::default() }).unwrap();
+        study.injector_z(15 + seed).unwrap();
+        let source = Source::gaussian_up_to(50e9);
+        let samples: Vec<f64> = source.samples(study.time(), study.grid().dt, 0).take(100).collect();
+        study.run(&samples).unwrap();
+        study.save().unwrap()
+    };
+    let alone: Vec<Vec<u8>> = (0..4).map(run).collect();
+    let together: Vec<Vec<u8>> = thread::scope(|scope| {
+        let handles: Vec<_> = (0..4).map(|seed| scope.spawn(move || run(seed))).collect();
+        handles.into_iter().map(|handle| handle.join().unwrap()).collect()
+    });
+    assert!(alone == together);
+}
+
+/// Whatever is asked, an answer comes back.
+#[test]
+fn nothing_panics() {
+    let mut state = 7u64;
+    let mut next = move || {
+        state = state.wrapping_mul(6364136223846793005).wrapping_add(1442695040888963407);
+        (state >> 33) as usize
+    };
+    let sizes = [0, 1, 2, 3, 9, 23, 24, 511, 512, 513, usize::MAX / 2, usize::MAX];
+    let numbers = [0.0, -0.0, 1.0, -1.0, 1e-3, 1e300, f64::MIN_POSITIVE, f64::INFINITY, f64::NAN];
+    let mut study = line(24);
+    for _ in 0..20_000 {
+        let mut size = || sizes[next() % sizes.len()];
+        let (a, b, c) = (size(), size(), size());
+        let mut number = || numbers[next() % numbers.len()];
+        let (x, y) = (number(), number());
+        let cells = CellBox { x: (a, b), y: (b, c), z: (c, a) };
+        let _ = match next() % 14 {
+            0 => study.set_material(cells, x, y, x),
+            1 => study.add_material(&debye().with_sigma(x)).map(|_| ()),
+            2 => study.set_periodic([x > y, y > x, true]),
+            3 => study.set_boundary_lossy(a, b, x),
+            4 => {
+                study.set_boundary_cpml(&CpmlConfig { thickness: a, order: x, kappa_max: y, ..CpmlConfig::default() }).map(|_| ())
+            }
+            5 => study.slab_z(a, b),
+            6 => study.box_region([a, b, a, b, a, b]),
+            7 => study.step(x),
+            8 => study.plane_reading(a).map(|_| ()),
+            9 => study.build_dispersion(),
+            10 => study.reset_fields(),
+            11 => study.total_energy().map(|_| ()),
+            12 => {
+                let found = study.plane(Field::Magnetic, a, b).len() + study.component(Field::Electric, c).len();
+                assert!(found <= 2 * 24);
+                Ok(())
+            }
+            _ => Study::open(&Grid { cells: [a, b, c], pitch: [x, y, x], dt: y, pole_slots: a }).map(|_| ()),
+        };
+    }
+}

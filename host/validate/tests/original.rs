@@ -1,0 +1,28 @@
+//! The slabs at 10 cells a wavelength and the layer's tables against the original, bit by bit. It prints a line of its own, so that a run without an
+//! original does not look like one that compared.
+
+use std::process::ExitCode;
+use validate::same::{self, Same};
+
+fn main() -> ExitCode {
+    println!("{}", same::told());
+    let slabs = match same::slabs(10) {
+        Ok(slabs) => slabs,
+        Err(refusal) => {
+            println!("FAILED: refused: {refusal}");
+            return ExitCode::FAILURE;
+        }
+    };
+    let all = [("slabs", slabs), ("the layer's tables", same::layer_tables(5000))];
+    if all.iter().all(|(name, same)| passed(name, same.as_ref())) { ExitCode::SUCCESS } else { ExitCode::FAILURE }
+}
+
+fn passed(name: &str, same: Option<&Same>) -> bool {
+    // where there is no original, nothing was compared, and the first line says so
+    let Some(Same { numbers, difference }) = same else { return !same::FOUND };
+    match difference {
+        None => println!("{name}: equal in every bit, {numbers} numbers"),
+        Some(place) => println!("FAILED: {name} differ first in {place}"),
+    }
+    difference.is_none() && *numbers > 0
+}

@@ -7,8 +7,8 @@ SHELL := /bin/bash -o pipefail
 EXAMPLE := office-80
 curve:
 	@$(MAKE) --no-print-directory setup
-	@if [ -e target/staticlib/libapi.a ]; then echo "1 of 3: the engine: proved already, unless a file changed"; \
-	else echo "1 of 3: the engine is proved and compiled, about 10 minutes"; fi
+	@$(MAKE) --no-print-directory --question engine 2>/dev/null && echo "1 of 3: the engine is proved already" \
+	  || echo "1 of 3: the engine is proved and compiled, about 10 minutes from nothing"
 	@$(MAKE) --no-print-directory engine
 	@echo "2 of 3: the command is built, about a minute the first time"
 	@$(MAKE) --no-print-directory command
@@ -22,9 +22,12 @@ curve:
 setup:
 	@host/setup
 
-# The proved library. What the prover says goes into a file; it is shown where something is not proved.
-engine:
+# The proved library, made anew when a file of the crates has changed. What the prover says goes into a file; it is shown where something is not proved.
+ENGINE := target/staticlib/libapi.a
+engine: $(ENGINE)
+$(ENGINE): $(shell find crates crates.txt -type f)
 	@mkdir -p target && if ! rt staticlib api > target/engine.txt 2>&1; then tail -n 40 target/engine.txt; exit 1; fi
+	@touch $@
 
 command:
 	@host/cargo build --release --quiet -p cichowiej-command
@@ -70,7 +73,7 @@ compare-long:
 
 # A curve's plan on a real Slurm, where one answers.
 cluster-test: setup engine command
-	host/cluster-test
+	@host/cluster-test
 
 # Time for a step beside the original's, and for the largest save beside a plain copy; a curve's stepping beside a run's.
 bench: setup

@@ -12,8 +12,8 @@ use sha2::{Digest, Sha256};
 use std::io::{self, Write};
 use std::path::Path;
 use std::process::ExitCode;
-use std::sync::Arc;
 use std::sync::atomic::{AtomicBool, Ordering};
+use std::sync::{Arc, OnceLock};
 
 #[derive(Parser)]
 #[command(name = "cichowiej", version, about = "Computes what a microwave gauge reads")]
@@ -94,6 +94,13 @@ impl Input {
 /// In hexadecimal digits.
 pub fn sha256(bytes: &[u8]) -> String {
     Sha256::digest(bytes).iter().map(|byte| format!("{byte:02x}")).collect()
+}
+
+/// The SHA-256 of this program's file: sums and sampling are the program's, and not the engine's.
+pub fn program() -> String {
+    static DIGEST: OnceLock<String> = OnceLock::new();
+    let digest = || std::env::current_exe().and_then(std::fs::read).map_or("unknown".into(), |bytes| sha256(&bytes));
+    DIGEST.get_or_init(digest).clone()
 }
 
 /// Standard output may be a pipe that nobody reads any more: that is no fault.

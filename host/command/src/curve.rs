@@ -1,5 +1,6 @@
 //! The curve's numbers, with what a reader has to be told first.
 
+mod checks;
 pub mod plan;
 pub mod study;
 mod warnings;
@@ -48,14 +49,16 @@ impl Curve {
         let points = plan.points.iter().zip(readings);
         // without boxes the empty head is air alone
         let air = points.clone().find(|(point, _)| !point.boxes).map_or(empty, |(_, reading)| reading);
-        Self {
+        let mut curve = Self {
             title,
             frequencies: plan.frequencies.clone(),
             rows: points.filter_map(|(point, reading)| Some(row(point.sheet.clone()?, reading, empty, air))).collect(),
             layer: empty.layer,
-            warnings: warnings(plan, readings),
+            warnings: Vec::new(),
             notes: notes(plan),
-        }
+        };
+        curve.warnings = warnings(plan, readings, &curve);
+        curve
     }
 
     /// Asked for and not active on some axis.
@@ -70,6 +73,13 @@ impl Curve {
 
     pub fn told(&self) -> String {
         told(self.layer)
+    }
+
+    /// A value that is no number.
+    pub fn has_no_number(&self) -> bool {
+        let finite =
+            |value: &Value| value.db.is_finite() && value.degrees.is_finite() && value.reflected.is_none_or(f64::is_finite);
+        !self.rows.iter().all(|row| row.energy.is_finite() && row.values.iter().all(finite))
     }
 
     /// The layer's line, and each warning.

@@ -7,8 +7,9 @@ use crate::cli::{Failure, Input, sha256};
 use crate::curve::told;
 use cichowiej::{MaterialId, Refusal, Study, write_whole};
 use statement::{Edge, Statement, Wave, grid, pole, size, statement};
-use std::collections::BTreeMap;
+use std::collections::{BTreeMap, BTreeSet};
 use std::fs;
+use std::io::{self, Write};
 use std::path::Path;
 use std::sync::atomic::{AtomicBool, Ordering};
 use words::Words;
@@ -20,8 +21,12 @@ pub type Out<'a> = &'a mut dyn FnMut(&str) -> Result<(), Failure>;
 pub fn run(study: Option<Study>, script: &Input, hex: bool, out: Out, stop: &AtomicBool) -> Result<Option<Study>, Failure> {
     let at = |(line, message): (usize, String)| format!("{}:{line}: {message}", script.name);
     let statements = parse(&script.text).map_err(at)?;
-    let mut session = Session { study, names: BTreeMap::new(), hex, stop };
+    let mut session = Session { study, names: BTreeMap::new(), hex, stop, unbuilt: false };
     for (line, statement) in &statements {
+        if let Some(doubt) = session.doubt(statement) {
+            // answers alone go to standard output
+            let _ = writeln!(io::stderr(), "warning: {}", at((*line, doubt)));
+        }
         match session.make(statement) {
             Ok(Some(answer)) => out(&format!("{answer}\n"))?,
             Ok(None) => {}
@@ -36,6 +41,21 @@ pub fn run(study: Option<Study>, script: &Input, hex: bool, out: Out, stop: &Ato
 }
 
 impl Statement {
+    /// Notes the name of a material; one that no line before has named is a slip.
+    fn check_name(&self, names: &mut BTreeSet<String>) -> Result<(), String> {
+        match self {
+            Statement::Material { name, .. } => {
+                names.insert(name.clone());
+                Ok(())
+            }
+            Statement::Box { material, .. } | Statement::Halfspace { material, .. } => {
+                let known = names.contains(material) || material == "vacuum" || material.parse::<u32>().is_ok();
+                if known { Ok(()) } else { Err(format!("there is no material {material:?}")) }
+            }
+            _ => Ok(()),
+        }
+    }
+
     /// The line whose words a refusal is about.
     fn line_of(&self, refusal: Refusal, line: usize) -> usize {
         match self {
@@ -51,6 +71,9 @@ type Lined<T> = (usize, T);
 fn parse(text: &str) -> Result<Vec<Lined<Statement>>, Lined<String>> {
     let mut statements: Vec<Lined<Statement>> = Vec::new();
     let mut sized: Option<Lined<([usize; 3], usize)>> = None;
+    let mut names = BTreeSet::new();
+    // some editors put a mark before the first line
+    let text = text.strip_prefix('\u{feff}').unwrap_or(text);
     for (index, text) in text.lines().enumerate() {
         let line = index + 1;
         let at = |message: String| (line, message);
@@ -67,7 +90,11 @@ fn parse(text: &str) -> Result<Vec<Lined<Statement>>, Lined<String>> {
                 Some((_, Statement::Material { material, .. })) => material.poles.push(pole(&mut words).map_err(at)?),
                 _ => return Err(at("a pole stands behind its material".into())),
             },
-            (kind, None) => statements.push((line, statement(kind, &mut words).map_err(at)?)),
+            (kind, None) => {
+                let statement = statement(kind, &mut words).map_err(at)?;
+                statement.check_name(&mut names).map_err(at)?;
+                statements.push((line, statement));
+            }
         }
         words.end().map_err(at)?;
     }
@@ -105,9 +132,35 @@ struct Session<'a> {
     names: BTreeMap<String, MaterialId>,
     hex: bool,
     stop: &'a AtomicBool,
+    /// Whether a material with poles was added and nothing built since.
+    unbuilt: bool,
 }
 
 impl Session<'_> {
+    /// What is no fault and mostly a slip.
+    fn doubt(&mut self, statement: &Statement) -> Option<String> {
+        match statement {
+            Statement::Open { grid, .. } => {
+                self.unbuilt = false;
+                let courant = grid.courant_number();
+                (courant > 1.0).then(|| format!("the Courant number is {courant:.3}: above 1 the field grows without end"))
+            }
+            Statement::Material { material, .. } => {
+                self.unbuilt |= !material.poles.is_empty();
+                None
+            }
+            Statement::Build => {
+                self.unbuilt = false;
+                None
+            }
+            Statement::Run { .. } if self.unbuilt => Some("a material's poles act after build only".into()),
+            Statement::Run { source: Some(_), .. } if !self.study.as_ref()?.has_region() => {
+                Some("there is no wave's region: what the source gives goes nowhere".into())
+            }
+            _ => None,
+        }
+    }
+
     fn study(&mut self) -> Result<&mut Study, String> {
         self.study.as_mut().ok_or_else(|| "there is no study yet: begin with size and pitch, or with --from".into())
     }

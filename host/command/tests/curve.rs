@@ -89,10 +89,27 @@ fn bad_lines_are_named() {
 fn places_that_give_no_curve_are_named() {
     refused(&[
         ("transmitted = 70", "transmitted = 41", 22, "planes.transmitted", "behind the sheet, at 42 or above"),
-        ("[wave.injector]", "[wave.slab]\nk1 = 60", 23, "planes.transmitted", "at or below the wave's k1 = 60"),
+        ("[wave.injector]", "[wave.slab]\nk1 = 60", 23, "planes.transmitted", "below the wave's k1 = 60"),
         ("reflected = 15", "reflected = 20", 23, "planes.reflected", "below the wave's k0 = 20"),
         ("cells = { z = [40, 42] }", "cells = { z = [10, 42] }", 32, "sheet.cells", "k0 = 20"),
-        ("cells = { z = [40, 42] }", "cells = { z = [42, 42] }", 32, "sheet.cells", "have to be some"),
+        ("cells = { z = [40, 42] }", "cells = { z = [42, 42] }", 32, "sheet.cells", "has to have a cell"),
+    ]);
+}
+
+/// Slips that would give the curve of something else.
+#[test]
+fn values_that_no_head_has_are_named() {
+    let boxed =
+        |cells: &str| format!("[materials.glass]\neps_inf = 4.0\n[[boxes]]\nmaterial = \"glass\"\ncells = {cells}\n[planes]");
+    refused(&[
+        ("[planes]", &boxed("{ z = [95, 99] }"), 25, "boxes[0].cells", "z = [95, 99] has to have a cell and to end at 90"),
+        ("[planes]", &boxed("{ z = [34, 30] }"), 25, "boxes[0].cells", "z = [34, 30]"),
+        ("cells = { z = [40, 42] }", "cells = { x = [0, 3], z = [40, 42] }", 32, "sheet.cells", "x = [0, 3]"),
+        ("eps_inf = 2.0", "eps_inf = 0.5", 36, "sheet.moisture[0].material.eps_inf", "1 or more"),
+        ("sigma = 0.1", "sigma = -0.1", 36, "sheet.moisture[0].material.sigma", "0 or more"),
+        ("delta_eps = 2.0", "delta_eps = -2.0", 40, "sheet.moisture[1].material.poles[0].debye.delta_eps", "0 or more"),
+        ("tau = \"9 ps\"", "tau = 0", 40, "sheet.moisture[1].material.poles[0].debye.tau", "or more"),
+        ("pitch = \"1 mm\"", "pitch = \"1,0 mm\"", 6, "grid.pitch", "decimal point"),
     ]);
 }
 
@@ -139,6 +156,19 @@ fn doubtful_curves_are_warned_of() {
         ("periodic = [\"x\", \"y\"]", "periodic = [\"x\"]", "not both periodic"),
         ("transmitted = 70", "transmitted = 85", "in the absorbing layer"),
         ("thickness = 10", "thickness = 10\nalpha_factor = 30", "absorbs little below"),
+        ("frequencies = [\"8 GHz\", \"10 GHz\"]", "frequencies = [9.4]", "next to nothing at 9.4 Hz"),
+        ("frequencies = [\"8 GHz\", \"10 GHz\"]", "frequencies = [\"40 GHz\"]", "next to nothing at 40 GHz"),
+        ("thickness = 10", "thickness = 3", "the absorbing layer is weak"),
+        ("thickness = 10", "thickness = 10\nsigma_scale = 0.05", "the absorbing layer is weak"),
+        ("axes = [\"z\"]", "axes = []", "no absorbing layer is asked for along z"),
+        (
+            "[edge.layer]\naxes = [\"z\"]\nthickness = 10",
+            "[edge.lossy]\nthickness = 10\norder = 3\nsigma_max = 1",
+            "no absorbing layer is asked for along z",
+        ),
+        ("percent = 5", "percent = 10", "the moisture 10 % stands twice"),
+        ("tau = \"9 ps\"", "tau = 9", "a time without a unit is in s"),
+        ("delay = \"400 ps\"", "delay = \"400 ns\"", "no numbers"),
         (
             "[source.modulated]\nfrequency = \"10 GHz\"\nwidth = \"80 ps\"\ndelay = \"400 ps\"",
             "[source.continuous]\nfrequency = \"10 GHz\"\nramp = \"400 ps\"",
@@ -154,6 +184,9 @@ fn doubtful_curves_are_warned_of() {
         assert!(out.contains("warning: ") && out.contains(word), "{new}: {out}");
         assert!(files[..2].iter().all(|text| text.contains(word)) && files[2].contains("warning"), "{new}");
     }
+    let (_, out, _) =
+        Folder::new(&HEAD.replace("percent = 10", "percent = 0.1").replace("percent = 5", "percent = 0.05")).curve(&[]);
+    assert!(out.contains("warning: every moisture is below 1 %"), "{out}");
     let (_, out, _) = Folder::new(HEAD).curve(&[]);
     assert!(!out.contains("warning"), "{out}");
 }

@@ -19,7 +19,7 @@ fn files_that_cannot_be_read_or_written_are_named() {
     assert_eq!(folder.curve(&[]).0, 1);
     let folder = Folder::new(HEAD);
     let (status, _, err) = folder.curve(&["--csv", "nowhere/c.csv"]);
-    assert!(status == 1 && err.contains("nowhere/c.csv: "), "{err}");
+    assert!(status == 1 && err.contains("nowhere/c.csv: there is no folder nowhere"), "{err}");
     let (status, _, err) = folder.curve(&["--csv", "/dev/full"]);
     assert!(status == 1 && err.contains("/dev/full: ") && err.contains("No space"), "{err}");
     fs::write(folder.path("head.toml"), b"title = \"\xff\"").unwrap();

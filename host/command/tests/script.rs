@@ -113,7 +113,8 @@ fn a_saved_study_is_taken_up() {
     fs::write(folder.path("s.txt"), "run 100\nenergy\nbox 1 z=60:61\nbox vacuum z=60:61\n").unwrap();
     let (status, out, err) = folder.run(&["--from", "a.save"]);
     assert_eq!((status, err.as_str()), (0, ""));
-    assert_eq!(out.trim(), whole.lines().nth(5).unwrap());
+    let told = "from a save of 500 steps, absorbing layer works on z";
+    assert_eq!(out.trim(), format!("{told}\n{}", whole.lines().nth(5).unwrap()));
     let (status, _, err) = folder.run(&["--from", "s.txt"]);
     assert!(status == 1 && err.contains("s.txt: refused as 14 BadMark: "), "{err}");
 }
@@ -155,7 +156,7 @@ fn bad_lines_are_named() {
         let (status, out, err) = Folder::new(&format!("size 1 1 24\npitch 1mm courant=0.5\nenergy\n{lines}\n")).run(&[]);
         assert!(status == 1 && err.contains(&format!("s.txt:{line}: ")) && err.contains(words), "{lines}: {err}");
         // what is no script is known before the first call
-        let late = ["no material", "nowhere.save", "nowhere/a.save"].iter().any(|late| words.contains(late));
+        let late = ["nowhere.save", "nowhere/a.save"].iter().any(|late| words.contains(late));
         assert_eq!(out.is_empty(), !late, "{lines}: {out}");
     }
 }
@@ -182,6 +183,26 @@ fn refusals_end_with_1() {
         let refusal = REFUSALS[number - 1];
         assert!(status == 1 && err.contains(&format!("s.txt:{line}: refused as {refusal}")), "{lines}: {err}");
     }
+}
+
+/// Slips that are no faults are told on standard error, with their line.
+#[test]
+fn doubtful_lines_are_warned_of() {
+    let cases = [
+        ("size 1 1 9\npitch 1mm courant=2\n", 2, "the Courant number is 2.000"),
+        (
+            "size 1 1 9 poles=1\npitch 1mm courant=0.5\nmaterial m eps_inf=2\npole debye delta_eps=1 tau=1ps\nbox m\nrun 3\n",
+            6,
+            "after build only",
+        ),
+        ("size 1 1 9\npitch 1mm courant=0.5\nrun 3 gaussian width=1ps delay=1ps\n", 3, "no wave's region"),
+    ];
+    for (script, line, words) in cases {
+        let (status, _, err) = Folder::new(script).run(&[]);
+        assert!(status == 0 && err.contains(&format!("warning: s.txt:{line}: ")) && err.contains(words), "{script}: {err}");
+    }
+    // a mark before the first line is no word
+    assert_eq!(Folder::new("\u{feff}size 1 1 9\npitch 1mm courant=0.5\n").run(&[]).0, 0);
 }
 
 #[test]

@@ -44,5 +44,5 @@ pub use material::{Material, Pole};
 pub use refusal::{REFUSALS, Refusal};
 pub use source::Source;
 pub use spectrum::{Complex, PlaneSpectrum};
-pub use stores::{BLOCK_LENGTH, MAX_CELLS, MAX_POLE_SLOTS, MAX_SIDE};
+pub use stores::{BLOCK_LENGTH, LINE_PAD, MATERIAL_LENGTH, MAX_CELLS, MAX_POLE_SLOTS, MAX_SIDE};
 pub use study::{CellBox, Field, Grid, Layer, MaterialId, Study};

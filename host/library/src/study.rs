@@ -275,6 +275,11 @@ impl Study {
         [9, 10, 11].map(|at| self.lent.block[at] == 1)
     }
 
+    /// Whether the wave has a region.
+    pub fn has_region(&self) -> bool {
+        self.lent.block[16] != 0
+    }
+
     /// Materials, the vacuum among them.
     pub fn material_count(&self) -> usize {
         usize::from(self.lent.block[15])

@@ -2,7 +2,7 @@
 
 use crate::report::{Section, db, largest};
 use crate::slabs::{COURANT, TOP, band, layer, pulse};
-use cichowiej::{CpmlConfig, Field, Grid, MAX_SIDE, PlaneSpectrum, Refusal, Source, Study, c0, tables};
+use cichowiej::{CpmlConfig, Field, Grid, LINE_PAD, MAX_SIDE, PlaneSpectrum, Refusal, Source, Study, c0, tables};
 use rayon::prelude::*;
 
 const THICKNESSES: [usize; 6] = [5, 10, 15, 20, 30, 40];
@@ -13,8 +13,7 @@ const FINE: usize = 20;
 /// The pulse's length in cells: ten widths of half a period.
 const LENGTH: usize = 5 * FINE;
 
-/// The wave's own line reaches so many cells beyond both ends of z; its source lies so many below plane 0.
-const PAD: usize = 24;
+/// The source of the wave's own line lies so many cells below plane 0.
 const SOURCE: usize = 18;
 
 fn grid(cells: usize) -> Grid {
@@ -66,7 +65,7 @@ fn high_end(config: &CpmlConfig) -> Result<Echo, Refusal> {
         study.set_periodic([true, true, false])?;
         study.set_boundary_cpml(config)?;
         study.injector_z(wave)?;
-        listen(study, plane, steps(2 * short + SOURCE + 4 * PAD + plane - 10))
+        listen(study, plane, steps(2 * short + SOURCE + 4 * LINE_PAD + plane - 10))
     };
     let (short, long) = (run(short)?, run(MAX_SIDE)?);
     let echo: Vec<f64> = short.iter().zip(&long).map(|(short, long)| short - long).collect();
@@ -114,7 +113,7 @@ fn in_front(config: &CpmlConfig, pitch: f64, frequency: f64) -> Result<f64, Refu
     let width = 1.0 / frequency;
     let source = Source::Modulated { amplitude: 1.0, width, delay: 5.0 * width, frequency };
     // the pulse, as long again, and four ways along the wave's own line
-    let time = 20.0 * width + 4.0 * (grid.cells[2] + 2 * PAD) as f64 * grid.pitch[2] / c0();
+    let time = 20.0 * width + 4.0 * (grid.cells[2] + 2 * LINE_PAD) as f64 * grid.pitch[2] / c0();
     for sample in source.samples(0.0, grid.dt, 0).take((time / grid.dt) as usize) {
         study.step(sample)?;
         spectra.iter_mut().for_each(|spectrum| spectrum.take(&study));

@@ -1,6 +1,6 @@
 //! `cichowiej curve`.
 
-use super::{Failure, Input, print, stop_flag};
+use super::{Failure, Input, print, program, stop_flag};
 use crate::cluster::Points;
 use crate::cluster::script::{Commands, Kind};
 use crate::curve::plan::{Plan, Point};
@@ -39,7 +39,7 @@ pub struct Arguments {
     /// Studies at a time; as many as there are cores if not given
     #[arg(long, value_name = "N", conflicts_with = "part", value_parser = clap::value_parser!(u16).range(1..))]
     jobs: Option<u16>,
-    /// End with status 1 where the absorbing layer does not work on an axis that was asked for
+    /// End with status 1 where the absorbing layer does not work on an axis that was asked for, or a value is no number
     #[arg(long)]
     strict: bool,
     /// Print the commands that make the points, each for itself, in any order and on any machine
@@ -122,6 +122,9 @@ impl Job<'_> {
         let curve = Curve::new(self.plan, title, readings);
         print(&table::text(&curve))?;
         write_files(self.arguments, &curve, self.input)?;
+        if self.arguments.strict && curve.has_no_number() {
+            return Ok(ExitCode::FAILURE);
+        }
         Ok(self.status(curve.layer))
     }
 
@@ -135,6 +138,10 @@ impl Job<'_> {
         let layer = self.checked()?;
         let text = self.commands(points)?.text(self.plan, kind);
         let first = format!("{}\n", told(layer));
+        if self.arguments.strict && layer.is_some_and(|layer| !layer.is_whole()) {
+            // no plan for a curve that is not wanted
+            return Err(Failure::Message(told(layer)));
+        }
         if kind == Kind::List {
             print(&(first + &text))?;
         } else {
@@ -165,6 +172,12 @@ fn outputs(arguments: &Arguments) -> impl Iterator<Item = &Path> {
 
 /// No output may take the place of an input or of another output.
 fn check_outputs(arguments: &Arguments, inputs: impl IntoIterator<Item = PathBuf>) -> Result<(), String> {
+    for path in outputs(arguments) {
+        let folder = path.parent().filter(|folder| *folder != Path::new("")).unwrap_or(Path::new("."));
+        if !folder.is_dir() {
+            return Err(format!("{}: there is no folder {}: make it first", path.display(), folder.display()));
+        }
+    }
     let resolved = |path: &Path| path.canonicalize().unwrap_or_else(|_| path.to_path_buf());
     let mut taken = vec![resolved(&arguments.head)];
     taken.extend(inputs.into_iter().map(|path| resolved(&path)));
@@ -210,7 +223,8 @@ fn bar(plan: &Plan, points: usize) -> ProgressBar {
 }
 
 fn write_files(arguments: &Arguments, curve: &Curve, input: &Input) -> Result<(), String> {
-    let about = [cichowiej::ENGINE.to_string(), format!("input {}, SHA-256 {}", input.name, input.digest)];
+    let engine = format!("{}, program {}", cichowiej::ENGINE, program().get(..16).unwrap_or_default());
+    let about = [engine, format!("input {}, SHA-256 {}", input.name, input.digest)];
     let write = |path: &Option<PathBuf>, bytes: &[u8]| match path {
         Some(path) => write_whole(path, bytes).map_err(|e| format!("{}: {e}", path.display())),
         None => Ok(()),

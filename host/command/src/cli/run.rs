@@ -23,6 +23,12 @@ pub struct Arguments {
 pub fn run(arguments: &Arguments) -> Result<ExitCode, Failure> {
     let script = Input::read(&arguments.script)?;
     let study = arguments.from.as_deref().map(read_save).transpose()?;
+    if let Some(study) = &study {
+        let works: Vec<&str> =
+            ["x", "y", "z"].into_iter().zip(study.active()).filter(|(_, works)| *works).map(|(axis, _)| axis).collect();
+        let works = if works.is_empty() { "no axis".into() } else { works.join(", ") };
+        print(&format!("from a save of {} steps, absorbing layer works on {works}\n", study.steps()))?;
+    }
     let stop = stop_flag()?;
     script::run(study, &script, arguments.hex, &mut |answer| Ok(print(answer)?), &stop)?;
     Ok(ExitCode::SUCCESS)

@@ -190,18 +190,22 @@ fn put(standing: &Standing, save: &Save, words: Words, stop: &AtomicBool) -> Res
         return Err(Failure::Interrupted);
     }
     let before = standing.keep(save, words)?;
-    print(&format!("{}{}\n", short(&save.id), told(&before)))?;
+    print(&format!("{}\n", short(&save.id)))?;
+    if let Some(remark) = told(&before) {
+        // standard output has the id alone, for a script
+        let _ = writeln!(io::stderr(), "{} {remark}", short(&save.id));
+    }
     Ok(())
 }
 
 /// What there was of the save before it was kept.
-fn told(before: &Noted) -> String {
+fn told(before: &Noted) -> Option<String> {
     match before {
-        Noted::Nothing => String::new(),
-        Noted::Damaged(message) => format!(" is there already; its note is damaged: {}", plain(message)),
+        Noted::Nothing => None,
+        Noted::Damaged(message) => Some(format!("is there already; its note is damaged: {}", plain(message))),
         Noted::Whole(note) => {
             let label = note.label.as_deref().map_or("without a label".into(), |label| format!("as \"{}\"", plain(label)));
-            format!(" is there already, kept {} {label}", note.kept)
+            Some(format!("is there already, kept {} {label}", note.kept))
         }
     }
 }

@@ -1,11 +1,11 @@
 //! A point's reading as a small file of text, from which every number comes back as it was.
 
-use crate::cli::sha256;
+use crate::cli::{program, sha256};
 use crate::curve::study::Reading;
 use cichowiej::{Complex, ENGINE, Layer};
 use serde::{Deserialize, Serialize};
+use std::io;
 use std::sync::OnceLock;
-use std::{fs, io};
 use thiserror::Error;
 
 /// Why a point has no reading.
@@ -156,13 +156,6 @@ pub fn parse(bytes: &[u8], digest: &str, number: usize) -> Result<Read, Unusable
         return Err(Unusable::OtherPoint(record.point));
     }
     Ok(Read { reading: record.reading(), maths: record.maths })
-}
-
-/// The SHA-256 of this program's file: sums and sampling are the program's, and not the engine's.
-fn program() -> String {
-    static DIGEST: OnceLock<String> = OnceLock::new();
-    let digest = || std::env::current_exe().and_then(fs::read).map_or("unknown".into(), |bytes| sha256(&bytes));
-    DIGEST.get_or_init(digest).clone()
 }
 
 /// The SHA-256 of what exp, sin, cos, ln and powf give here for many numbers. The system's library chooses them by processor, and their last bits differ.

@@ -1,5 +1,6 @@
 //! What a head's file asks for: the grid, the points of the curve, where things stand; and whether a curve can be had from it.
 
+use crate::curve::checks;
 use crate::head::mixture::Shares;
 use crate::head::trouble::Trouble;
 use crate::head::{Edge, Head, MoisturePart, PaperPart, Sheet, Wave};
@@ -58,11 +59,7 @@ impl<'a> Plan<'a> {
             points,
             sheet: head.sheet.cells.cell_box(),
         };
-        plan.check_periodic()?;
-        plan.check_order()?;
-        if let Some(part) = &head.sheet.paper {
-            plan.check_caliper(part)?;
-        }
+        checks::check(&plan)?;
         Ok(plan)
     }
 
@@ -72,65 +69,17 @@ impl<'a> Plan<'a> {
     }
 
     /// The planes of the sheet, from the first up to, not with, the last, cut to the grid.
-    fn sheet_planes(&self) -> (usize, usize) {
+    pub fn sheet_planes(&self) -> (usize, usize) {
         (self.sheet.z.0, self.sheet.z.1.min(self.grid.cells[2]))
     }
 
-    /// The engine makes an axis with a layer periodic no more.
-    fn check_periodic(&self) -> Result<(), Trouble> {
-        match &self.head.edge {
-            Edge::Layer(part) if part.axes.iter().any(|axis| self.head.periodic.contains(axis)) => {
-                Err(Trouble::at("periodic", "an axis of it is in edge.layer.axes too: it is the one or the other"))
-            }
-            _ => Ok(()),
+    /// The first and the last plane of the wave's region.
+    pub fn wave_planes(&self) -> (usize, Option<usize>) {
+        match &self.head.wave {
+            Wave::Slab(part) => (part.k0, Some(part.k1)),
+            Wave::Injector(part) => (part.k0, None),
+            Wave::Box(part) => (part.corners[4], Some(part.corners[5])),
         }
-    }
-
-    /// The wave has to meet, one after another: the plane that counts what comes back, its own first plane, the sheet, the plane behind it.
-    fn check_order(&self) -> Result<(), Trouble> {
-        let planes = &self.head.planes;
-        let (first, last) = match &self.head.wave {
-            Wave::Slab(part) => (part.k0, part.k1),
-            Wave::Injector(part) => (part.k0, usize::MAX),
-            Wave::Box(part) => (part.corners[4], part.corners[5]),
-        };
-        let (from, to) = self.sheet_planes();
-        if planes.reflected.is_some_and(|back| back >= first) {
-            let message = format!("it has to lie below the wave's k0 = {first}: from there on the incident wave is in the field");
-            return Err(Trouble::at("planes.reflected", message));
-        }
-        if from >= to || from < first {
-            return Err(Trouble::at(
-                "sheet.cells",
-                format!("its planes have to be some, and to lie at or above the wave's k0 = {first}"),
-            ));
-        }
-        let behind = planes.transmitted;
-        if behind >= self.grid.cells[2] {
-            return Err(Trouble::refused("planes.transmitted", Refusal::NoSuchPlane));
-        }
-        if behind < to || behind > last {
-            let end = if last == usize::MAX { String::new() } else { format!(", and at or below the wave's k1 = {last}") };
-            return Err(Trouble::at("planes.transmitted", format!("it has to lie behind the sheet, at {to} or above{end}")));
-        }
-        Ok(())
-    }
-
-    /// A sheet whose box is not as thick as its caliper would have another weight.
-    fn check_caliper(&self, part: &PaperPart) -> Result<(), Trouble> {
-        let caliper = part.caliper.0;
-        let (from, to) = self.sheet_planes();
-        let thick = (to - from) as f64 * self.grid.pitch[2];
-        if (thick / caliper - 1.0).abs() <= 1e-6 {
-            return Ok(());
-        }
-        let fitting = 1e6 * caliper / (to - from) as f64;
-        let message = format!(
-            "the sheet's {} cells along z are {:.4} um thick: take a pitch of {fitting:.4} um along z, or other cells",
-            to - from,
-            1e6 * thick
-        );
-        Err(Trouble::at("sheet.paper.caliper", message))
     }
 
     /// The absorbing layer's numbers, if it is asked for along z.

@@ -20,7 +20,7 @@ pub enum Misfit {
     #[error("a moisture of {0} % is not between 0 and 100")]
     NoMoisture(f64),
     #[error(
-        "fibre and water together fill {0:.3} of the sheet's volume: the caliper is too small for the grammage, or a density too low"
+        "fibre and water together fill {0:.3} of the sheet's volume: the caliper is too small for the grammage, or a density too low (numbers without a unit are in kg/m2, kg/m3 and m)"
     )]
     TooDense(f64),
 }

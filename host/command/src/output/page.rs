@@ -1,7 +1,7 @@
 //! The curve as one page without outside parts.
 
 use crate::curve::Curve;
-use crate::output::table::{columns, gigahertz, numbers};
+use crate::output::table::{columns, in_hertz, numbers};
 
 const STYLE: &str = "\
 body{font:16px/1.5 system-ui,sans-serif;color:#111;background:#fff;margin:0 auto;max-width:60rem;padding:1rem;overflow-wrap:anywhere}\
@@ -47,7 +47,7 @@ fn curve_table(curve: &Curve) -> String {
 fn sheet_table(curve: &Curve) -> String {
     let mixed = curve.rows.iter().all(|row| row.sheet.shares.is_some());
     let shares: &[&str] = if mixed { &["fibre", "water", "air"] } else { &[] };
-    let at = |&f: &f64| [format!("\u{3b5}\u{2032} at {}", gigahertz(f)), format!("\u{3b5}\u{2033} at {}", gigahertz(f))];
+    let at = |&f: &f64| [format!("\u{3b5}\u{2032} at {}", in_hertz(f)), format!("\u{3b5}\u{2033} at {}", in_hertz(f))];
     let names: Vec<String> =
         ["moisture %"].iter().chain(shares).map(|name| name.to_string()).chain(curve.frequencies.iter().flat_map(at)).collect();
     let rows = curve.rows.iter().map(|row| {

@@ -1,7 +1,7 @@
 //! The curve as a picture for a report: transmission and phase over the moisture, readable in grey.
 
 use crate::curve::{Curve, Value};
-use crate::output::table::gigahertz;
+use crate::output::table::in_hertz;
 use plotters::coord::Shift;
 use plotters::prelude::*;
 use std::error::Error;
@@ -104,7 +104,7 @@ fn head(area: &Area, curve: &Curve) -> Result<i32, Box<dyn Error>> {
 fn legend(area: &Area, curve: &Curve, y: i32) -> Result<(), Box<dyn Error>> {
     let mut x = 24;
     for (which, frequency) in curve.frequencies.iter().enumerate() {
-        let name = gigahertz(*frequency);
+        let name = in_hertz(*frequency);
         area.draw(&PathElement::new([(x, y), (x + 30, y)], shade(which).stroke_width(2)))?;
         let (at, filled) = ((x + 15, y), shade(which).filled());
         if is_round(which) {

@@ -3,17 +3,19 @@
 use crate::curve::{Curve, Row};
 use std::fmt::Write;
 
-/// A frequency for a reader: in GHz, with no more places than it has.
-pub fn gigahertz(frequency: f64) -> String {
-    let short = format!("{:.6}", frequency / 1e9);
-    format!("{} GHz", short.trim_end_matches('0').trim_end_matches('.'))
+/// A frequency for a reader, with no more places than it has.
+pub fn in_hertz(frequency: f64) -> String {
+    let units = [(1e9, "GHz"), (1e6, "MHz"), (1e3, "kHz")];
+    let (size, unit) = units.into_iter().find(|(size, _)| frequency >= *size).unwrap_or((1.0, "Hz"));
+    let short = format!("{:.6}", frequency / size);
+    format!("{} {unit}", short.trim_end_matches('0').trim_end_matches('.'))
 }
 
 /// The names of the columns.
 pub fn columns(curve: &Curve) -> Vec<String> {
     let mut names = vec!["moisture %".to_string()];
     for &frequency in &curve.frequencies {
-        let at = gigahertz(frequency);
+        let at = in_hertz(frequency);
         names.extend([format!("dB at {at}"), format!("degrees at {at}")]);
         if curve.has_reflected() {
             names.push(format!("reflected at {at}"));

@@ -1,7 +1,8 @@
 //! In which records and cells two saves differ, and by how much.
 
 use crate::standing::list::{counted, product};
-use crate::standing::records::{MATERIAL_LENGTH, Record, Shape, byte, count, double, records, short};
+use crate::standing::records::{Record, Shape, byte, count, double, records, short};
+use cichowiej::MATERIAL_LENGTH;
 
 /// The lines for two saves that the engine accepts.
 pub fn compare(first: &[u8], second: &[u8]) -> Option<String> {

@@ -1,14 +1,13 @@
 //! A save's records, and what each of their numbers is (document 01, "The save").
 
+use cichowiej::LINE_PAD;
+
 /// In their order.
 pub const MARKS: [&str; 11] = ["GH", "ML", "CI", "CM", "FE", "FH", "LE", "LH", "LT", "PP", "AX"];
 
 const GRID_LENGTH: usize = 73;
 /// The first record with its frame.
 pub const FIRST_RECORD: u64 = 6 + GRID_LENGTH as u64;
-pub const MATERIAL_LENGTH: usize = 125;
-/// The places of the wave's line below the first plane, and above the last.
-const LINE_PAD: usize = 24;
 
 /// A record: its mark and its payload.
 #[derive(Debug, Clone, Copy)]

@@ -34,8 +34,10 @@ fn keeping_again_changes_nothing_and_says_so() {
     let place = Place::new();
     let id = place.keep(20, 4, &["--label", "first"]);
     let before = place.files();
-    let out = place.good(&["keep", "s.save", "--label", "second"]);
-    assert!(out.starts_with(&format!("{id} is there already, kept 2")) && out.ends_with(" as \"first\"\n"), "{out}");
+    // the id alone on standard output, for a script
+    let (status, out, err) = place.run(&["keep", "s.save", "--label", "second"]);
+    assert_eq!((status, out), (0, format!("{id}\n")));
+    assert!(err.starts_with(&format!("{id} is there already, kept 2")) && err.ends_with(" as \"first\"\n"), "{err}");
     assert!(place.files() == before);
     // a save without a note gets one
     fs::remove_file(place.kept(&id, ".toml")).unwrap();
@@ -148,8 +150,9 @@ fn a_resume_that_fails_keeps_nothing() {
     assert!(place.bad(&["resume", &root, "bad.script"]).contains("bad.script:2: "));
     // what a script leaves as it was is there already
     fs::write(place.path("nothing.script"), "").unwrap();
-    let out = place.good(&["resume", &root, "nothing.script"]);
-    assert!(out.lines().last().unwrap().starts_with(&format!("{root} is there already")), "{out}");
+    let (status, out, err) = place.run(&["resume", &root, "nothing.script"]);
+    assert_eq!((status, out), (0, format!("{root}\n")));
+    assert!(err.starts_with(&format!("{root} is there already")), "{err}");
     assert!(place.files() == before);
 }
 
@@ -233,12 +236,14 @@ fn help_has_an_example_and_a_closed_pipe_is_no_fault() {
 fn many_at_a_time_leave_one_note() {
     let place = Place::new();
     place.save("s.save", 20, 4);
-    let keep = |label: &str| place.command(&["keep", "s.save", "--label", label]).stdout(Stdio::piped()).spawn().unwrap();
+    let keep = |label: &str| {
+        place.command(&["keep", "s.save", "--label", label]).stdout(Stdio::null()).stderr(Stdio::piped()).spawn().unwrap()
+    };
     for round in 0..6 {
         let children: Vec<_> = (0..8).map(|n| keep(&format!("n{n}"))).collect();
         let outs: Vec<_> = children.into_iter().map(|child| child.wait_with_output().unwrap()).collect();
         assert!(outs.iter().all(|out| out.status.success()));
-        let texts: Vec<String> = outs.into_iter().map(|out| String::from_utf8(out.stdout).unwrap()).collect();
+        let texts: Vec<String> = outs.into_iter().map(|out| String::from_utf8(out.stderr).unwrap()).collect();
         let first: Vec<usize> = (0..8).filter(|n| !texts[*n].contains("already")).collect();
         assert_eq!(first.len(), 1, "{texts:?}");
         let told = format!(" as \"n{}\"\n", first[0]);

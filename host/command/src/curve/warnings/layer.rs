@@ -1,0 +1,60 @@
+//! The absorbing layer: there at all, strong enough, with nothing in it.
+
+use crate::curve::plan::Plan;
+use crate::curve::study::Reading;
+use crate::output::table::in_hertz;
+use cichowiej::c0;
+use std::f64::consts::PI;
+
+/// How many times the lowest gauge frequency the layer's α may lie at.
+const SHIFTED: f64 = 3.0;
+
+/// Fewer cells reflect more than -60 dB (docs/VALIDATION.md has -47 dB for 5, -89 dB for 10).
+const LEAST_CELLS: usize = 8;
+
+/// The reflection that its conductivity may be chosen for: -60 dB.
+const MOST_REFLECTION: f64 = 1e-3;
+
+/// Along z, where the wave runs.
+pub fn absent(plan: &Plan) -> Option<String> {
+    plan.layer_on_z().is_none().then(|| {
+        "no absorbing layer is asked for along z, where the wave runs: its ends send the wave back; take [edge.layer] with axes = [\"z\"]".into()
+    })
+}
+
+pub fn weak(plan: &Plan) -> Option<String> {
+    let layer = plan.layer_on_z()?;
+    let chosen_for = layer.target_reflection.powf(layer.sigma_scale);
+    let strong = layer.thickness >= LEAST_CELLS && (2.0..=6.0).contains(&layer.order) && chosen_for <= MOST_REFLECTION;
+    (!strong).then(|| {
+        format!("the absorbing layer is weak: take {LEAST_CELLS} cells or more, an order of 3 or 4, and leave target_reflection and sigma_scale as they are")
+    })
+}
+
+/// The layer's α, alpha_factor ε0 c / depth, keeps it from absorbing much where 2π f ε0 lies well below it.
+pub fn shifted(plan: &Plan) -> Option<String> {
+    let layer = plan.layer_on_z().filter(|layer| layer.thickness > 0)?;
+    let depth = layer.thickness as f64 * plan.grid.pitch[2];
+    let shift = layer.alpha_factor * c0() / (2.0 * PI * depth);
+    let lowest = plan.frequencies.iter().copied().fold(f64::INFINITY, f64::min);
+    (shift > SHIFTED * lowest).then(|| {
+        let (lowest, shift) = (in_hertz(lowest), in_hertz(shift));
+        format!(
+            "the absorbing layer is thin for the lowest gauge frequency, {lowest}, and absorbs little below {shift}: take a smaller alpha_factor (0.02) \
+             or more cells for it"
+        )
+    })
+}
+
+/// What stands in the absorbing layer is weakened there.
+pub fn inside(plan: &Plan, readings: &[Reading]) -> Option<String> {
+    let works = readings.first().and_then(|empty| empty.layer).is_some_and(|layer| layer.active[2]);
+    let (thick, nz) = (plan.layer_on_z()?.thickness, plan.grid.cells[2]);
+    let planes = &plan.head.planes;
+    let (first, _) = plan.wave_planes();
+    let below = first < thick || planes.reflected.is_some_and(|back| back < thick);
+    let above = planes.transmitted.saturating_add(thick) >= nz;
+    (works && (below || above)).then(|| {
+        format!("a plane, or the wave's first one, stands in the absorbing layer, which has {thick} cells at each end of z: move it, or take more cells")
+    })
+}

@@ -110,10 +110,13 @@ impl Standing {
 
     /// The one kept save whose digest begins so.
     pub fn resolve(&self, prefix: &str) -> Result<String, String> {
-        let saves = self.names()?.saves;
+        let names = self.names()?;
         let begins = |id: &&String| is_digest(id) && id.starts_with(prefix);
-        let found: Vec<&String> = saves.iter().filter(begins).collect();
+        let found: Vec<&String> = names.saves.iter().filter(begins).collect();
         match found.as_slice() {
+            [] if names.notes.iter().any(|id| id.starts_with(prefix)) => {
+                Err(format!("{prefix}: in {} its note alone is there, and not the save", self.folder()))
+            }
             [] => Err(format!("{prefix}: no save in {} begins so", self.folder())),
             [id] => Ok(id.to_string()),
             several => {

@@ -275,9 +275,6 @@ fn folders_and_points_that_cannot_be_had_are_named() {
 fn misuse_ends_with_2() {
     let folder = Folder::new(HEAD);
     let misuses = [
-        "--plan slurm",
-        "--point 0",
-        "--gather",
         "--points p",
         "--plan list --gather --points p",
         "--plan list --point 0 --points p",
@@ -293,6 +290,18 @@ fn misuse_ends_with_2() {
         assert_eq!((status, out.as_str()), (2, ""), "{words}");
     }
     assert_eq!(names(&folder.path("")), ["head.toml"]);
+}
+
+/// Without a folder's name it is beside the head.
+#[test]
+fn the_usual_folder_is_beside_the_head() {
+    let folder = Folder::new(HEAD);
+    let (status, plan, _) = folder.curve(&["--plan", "parallel"]);
+    assert!(status == 0 && plan.lines().all(|line| line.ends_with("/head.points")), "{plan}");
+    plan.lines().for_each(sh);
+    assert_eq!(names(&folder.path("head.points")).len(), 3);
+    let straight = folder.curve(&[]);
+    assert_eq!(folder.curve(&["--gather"]), straight);
 }
 
 /// What a processor without fused multiplication would have the system's library choose. Where it makes no difference, there is nothing to try.

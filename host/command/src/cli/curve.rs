@@ -19,9 +19,9 @@ use std::sync::atomic::AtomicBool;
 #[derive(clap::Args)]
 #[command(after_help = "Example: cichowiej curve examples/office-80.toml --html curve.html --strict\n\n\
     On a cluster:\n  \
-    cichowiej curve HEAD.toml --plan slurm --points DIR > job.sh\n  \
+    cichowiej curve HEAD.toml --plan slurm > job.sh\n  \
     sbatch --wait job.sh\n  \
-    cichowiej curve HEAD.toml --gather --points DIR --html curve.html\n\n\
+    cichowiej curve HEAD.toml --gather --html curve.html\n\n\
     Exit status: 0; 1 for bad input, a refusal of the engine, a missing point or, with --strict, a missing layer; 2 for misuse; 130 after Ctrl-C")]
 pub struct Arguments {
     /// The head's file
@@ -43,15 +43,15 @@ pub struct Arguments {
     #[arg(long)]
     strict: bool,
     /// Print the commands that make the points, each for itself, in any order and on any machine
-    #[arg(long, value_name = "KIND", group = "part", requires = "points")]
+    #[arg(long, value_name = "KIND", group = "part")]
     plan: Option<Kind>,
     /// Run one point alone and write its reading into the points' folder; 0 is the empty head
-    #[arg(long, value_name = "K", group = "part", requires = "points")]
+    #[arg(long, value_name = "K", group = "part")]
     point: Option<usize>,
     /// Make the curve from the readings in the points' folder
-    #[arg(long, group = "part", requires = "points")]
+    #[arg(long, group = "part")]
     gather: bool,
-    /// The folder that the points' readings are in
+    /// The folder that the points' readings are in; if not given, HEAD.points beside HEAD.toml
     #[arg(long, value_name = "DIR", requires = "part")]
     points: Option<PathBuf>,
 }
@@ -62,14 +62,13 @@ pub fn run(arguments: &Arguments) -> Result<ExitCode, Failure> {
     let head = Head::parse(&input.text).map_err(located)?;
     let plan = Plan::new(&head).map_err(located)?;
     let job = Job { arguments, input: &input, plan: &plan };
-    let Some(folder) = &arguments.points else {
-        return job.whole();
-    };
-    let points = Points { plan: &plan, digest: &input.digest, folder };
-    match (arguments.plan, arguments.point) {
-        (Some(kind), _) => job.print_commands(&points, kind),
-        (_, Some(number)) => job.run_point(&points, number),
-        _ => job.gather(&points),
+    let folder = arguments.points.clone().unwrap_or_else(|| arguments.head.with_extension("points"));
+    let points = Points { plan: &plan, digest: &input.digest, folder: &folder };
+    match (arguments.plan, arguments.point, arguments.gather) {
+        (Some(kind), ..) => job.print_commands(&points, kind),
+        (_, Some(number), _) => job.run_point(&points, number),
+        (.., true) => job.gather(&points),
+        _ => job.whole(),
     }
 }
 

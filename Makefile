@@ -1,6 +1,10 @@
 # make curve: the example's curve, from a fresh clone. make test: everything that a change has to pass; its last line is the proof's tally,
 # 'N passed, M failed'.
 SHELL := /bin/bash -o pipefail
+# The parts build on one another, and `rt` uses all cores by itself.
+.NOTPARALLEL:
+# What a failed rule has left is not taken for its result.
+.DELETE_ON_ERROR:
 .PHONY: curve man test format prove kit setup engine command compare host compare-long cluster-test bench validate
 
 # What a curve needs is built first, each part with about how long it takes on two cores.
@@ -25,11 +29,11 @@ setup:
 # The proved library, made anew when a file of the crates has changed. What the prover says goes into a file; it is shown where something is not proved.
 ENGINE := target/staticlib/libapi.a
 engine: $(ENGINE)
-$(ENGINE): $(shell find crates crates.txt -type f)
+$(ENGINE): $(shell find crates crates.txt RATTLE-KIT -type f)
 	@mkdir -p target && if ! rt staticlib api > target/engine.txt 2>&1; then tail -n 40 target/engine.txt; exit 1; fi
 	@touch $@
 
-command:
+command: engine
 	@host/cargo build --release --quiet -p cichowiej-command
 
 # The manual page, from the same words as --help.
@@ -41,7 +45,7 @@ man: setup engine command
 test: format setup
 	@said=$$(mktemp); rt ci 2>&1 | tee $$said; proved=$$?; \
 	if [ $$proved = 0 ] && ! $(MAKE) --no-print-directory compare host; then $(MAKE) --no-print-directory kit; exit 1; fi; \
-	$(MAKE) --no-print-directory kit; tail -n 1 $$said; exit $$proved
+	$(MAKE) --no-print-directory kit; tail -n 1 $$said; rm -f $$said; exit $$proved
 
 # Another kit may prove it as well: it is named, and nothing fails.
 kit:

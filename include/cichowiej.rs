@@ -4,6 +4,7 @@
 // Each crate that takes the file in uses a part of it.
 #![allow(dead_code)]
 
+// Those that take and give numbers alone are safe to call with any.
 unsafe extern "C" {
     pub safe fn cichowiej_eps0() -> f64;
     pub safe fn cichowiej_mu0() -> f64;

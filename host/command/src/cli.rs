@@ -96,11 +96,15 @@ pub fn sha256(bytes: &[u8]) -> String {
     Sha256::digest(bytes).iter().map(|byte| format!("{byte:02x}")).collect()
 }
 
+/// What stands for a program whose file cannot be read.
+pub const UNKNOWN: &str = "unknown";
+
 /// The SHA-256 of this program's file: sums and sampling are the program's, and not the engine's.
 pub fn program() -> String {
     static DIGEST: OnceLock<String> = OnceLock::new();
-    let digest = || std::env::current_exe().and_then(std::fs::read).map_or("unknown".into(), |bytes| sha256(&bytes));
-    DIGEST.get_or_init(digest).clone()
+    // the file that runs, should another have taken its name
+    let read = || std::fs::read("/proc/self/exe").or_else(|_| std::env::current_exe().and_then(std::fs::read));
+    DIGEST.get_or_init(|| read().map_or(UNKNOWN.into(), |bytes| sha256(&bytes))).clone()
 }
 
 /// Standard output may be a pipe that nobody reads any more: that is no fault.

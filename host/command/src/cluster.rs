@@ -60,7 +60,7 @@ impl Points<'_> {
     fn fits(&self, reading: &Reading) -> bool {
         let count = self.plan.frequencies.len();
         let reflected = self.plan.head.planes.reflected.map(|_| count);
-        [reading.transmitted.len(), reading.incident.len()] == [count; 2] && reading.reflected.as_ref().map(Vec::len) == reflected
+        reading.transmitted.len() == count && reading.reflected.as_ref().map(Vec::len) == reflected
     }
 
     /// What the mathematical functions of all points' machines have to give: what they give here, if one of the points was computed so; else as for the first.

@@ -104,14 +104,16 @@ pub fn told(layer: Option<Layer>) -> String {
     )
 }
 
-fn named(axes: [bool; 3]) -> String {
+/// Axes by their names.
+pub fn named(axes: [bool; 3]) -> String {
     let names: Vec<&str> = ["x", "y", "z"].into_iter().zip(axes).filter(|(_, on)| *on).map(|(name, _)| name).collect();
     if names.is_empty() { "no axis".into() } else { names.join(", ") }
 }
 
-/// What comes back has an echo of the incident wave's own line in it (docs/VALIDATION.md), which air alone has too: it is taken off.
+/// What comes back has an echo of the incident wave's own line in it (docs/VALIDATION.md), which air alone has too: it is taken off. The incident wave is what air
+/// alone lets through.
 fn row(sheet: WetSheet, reading: &Reading, empty: &Reading, air: &Reading) -> Row {
-    let back = |f: usize| Some((reading.reflected.as_ref()?[f] - air.reflected.as_ref()?[f]).norm() / reading.incident[f].norm());
+    let back = |f: usize| Some((reading.reflected.as_ref()?[f] - air.reflected.as_ref()?[f]).norm() / air.transmitted[f].norm());
     let value = |f: usize| {
         let ratio: Complex = reading.transmitted[f] / empty.transmitted[f];
         Value { db: 20.0 * ratio.norm().log10(), degrees: ratio.angle().to_degrees(), reflected: back(f).map(|part| part * part) }

@@ -37,6 +37,7 @@ pub struct Head {
 
 impl Head {
     pub fn parse(text: &str) -> Result<Self, Trouble> {
+        Trouble::of_depth(text).map_or(Ok(()), Err)?;
         let value: toml::Value = toml::from_str(text).map_err(|error| Trouble::of_text(&error, text))?;
         serde_path_to_error::deserialize(value)
             .map_err(|error| Trouble::of_value(&error.path().to_string(), &error.inner().to_string()))

@@ -5,10 +5,10 @@ mod words;
 
 use crate::cli::{Failure, Input, sha256};
 use crate::curve::told;
+use crate::standing::Save;
 use cichowiej::{MaterialId, Refusal, Study, write_whole};
 use statement::{Edge, Statement, Wave, grid, pole, size, statement};
 use std::collections::{BTreeMap, BTreeSet};
-use std::fs;
 use std::io::{self, Write};
 use std::path::Path;
 use std::sync::atomic::{AtomicBool, Ordering};
@@ -38,6 +38,13 @@ pub fn run(study: Option<Study>, script: &Input, hex: bool, out: Out, stop: &Ato
         }
     }
     Ok(session.study)
+}
+
+/// The first line that begins another study, if the script is one.
+pub fn begins_anew(script: &Input) -> Option<usize> {
+    let statements = parse(&script.text).ok()?;
+    let anew = |statement: &Statement| matches!(statement, Statement::Open { .. } | Statement::Rewind(_));
+    statements.into_iter().find(|(_, statement)| anew(statement)).map(|(line, _)| line)
 }
 
 impl Statement {
@@ -204,8 +211,7 @@ impl Session<'_> {
             }
             Statement::Save(path) => return self.save(path).map(Some),
             Statement::Rewind(path) => {
-                let bytes = fs::read(path).map_err(|e| format!("{}: {e}", path.display()))?;
-                self.study = Some(Study::from_save(&bytes)?);
+                self.study = Some(Save::from_file(path)?.study);
                 self.names.clear();
             }
             _ => self.edit(statement)?,

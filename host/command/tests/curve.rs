@@ -76,7 +76,7 @@ fn bad_lines_are_named() {
         ("steps = 3000", "steps = 3e3", 29, "run.steps", "expected a whole number, 0 or more"),
         ("axes = [\"z\"]", "axes = \"z\"", 10, "edge.layer.axes", "expected a list in brackets"),
         ("steps = 3000", "steps = 0", 29, "run.steps", "1 or more"),
-        ("tau = \"9 ps\"", "tua = \"9 ps\"", 40, "sheet.moisture[1].material.poles[0].debye.tua", "unknown field"),
+        ("tau = \"4 ps\"", "tua = \"4 ps\"", 40, "sheet.moisture[1].material.poles[0].debye.tua", "unknown field"),
         ("[planes]", "[boxes]\n[planes]", 21, "boxes", "list in brackets"),
         ("[planes]", "[[boxes]]\nmaterial = \"glass\"\ncells = {}\n[planes]", 22, "boxes[0].material", "no material \"glass\""),
         ("percent = 5", "percent = nan", 35, "sheet.moisture[0].percent", "from 0 to 100"),
@@ -108,9 +108,14 @@ fn values_that_no_head_has_are_named() {
         ("eps_inf = 2.0", "eps_inf = 0.5", 36, "sheet.moisture[0].material.eps_inf", "1 or more"),
         ("sigma = 0.1", "sigma = -0.1", 36, "sheet.moisture[0].material.sigma", "0 or more"),
         ("delta_eps = 2.0", "delta_eps = -2.0", 40, "sheet.moisture[1].material.poles[0].debye.delta_eps", "0 or more"),
-        ("tau = \"9 ps\"", "tau = 0", 40, "sheet.moisture[1].material.poles[0].debye.tau", "or more"),
+        ("tau = \"4 ps\"", "tau = 0", 40, "sheet.moisture[1].material.poles[0].debye.tau", "or more"),
         ("pitch = \"1 mm\"", "pitch = \"1,0 mm\"", 6, "grid.pitch", "decimal point"),
+        ("width = \"80 ps\"", "width = \"-80 ps\"", 18, "source.modulated.width", "larger than 0"),
+        ("delay = \"400 ps\"", "delay = inf", 19, "source.modulated.delay", "0 or more"),
     ]);
+    let deep = format!("title = {}{}", "[".repeat(100_000), "]".repeat(100_000));
+    let (status, _, err) = with("title = \"A test\"", &deep).curve(&[]);
+    assert!(status == 1 && err.contains("100000 deep"), "{err}");
 }
 
 #[test]
@@ -146,6 +151,36 @@ fn what_is_no_toml_is_named_with_its_line() {
     }
 }
 
+/// The example's paper with a slip in it.
+#[test]
+fn slips_in_the_paper_are_named() {
+    let example = fs::read_to_string(concat!(env!("CARGO_MANIFEST_DIR"), "/../../examples/office-80.toml")).unwrap();
+    let cases = [
+        (
+            "density = \"0.998 g/cm3\"",
+            "density = \"-0.998 g/cm3\"",
+            "sheet.paper.water.density: it has to be a number larger than 0",
+        ),
+        ("grammage = \"76 g/m2\"", "grammage = 76", "numbers without a unit are in kg/m2"),
+        (
+            "material = { eps_inf = 6.5 }",
+            "material = { eps_inf = 6.5, mu_r = 2 }",
+            "sheet.paper.fibre.material.mu_r: the mixture knows no permeability",
+        ),
+        (
+            "caliper = \"104 um\"",
+            "caliper = \"100 um\"",
+            "it is 100.0000 um, and the sheet's 5 cells along z are 104.0000 um thick: take a pitch of 20.0000 um",
+        ),
+        ("temperature = 20", "temperature = 293", "it is in °C"),
+    ];
+    for (old, new, words) in cases {
+        assert_eq!(example.matches(old).count(), 1, "{old}");
+        let (status, out, err) = Folder::new(&example.replace(old, new)).curve(&[]);
+        assert!((status, out.as_str()) == (1, "") && err.contains("head.toml:") && err.contains(words), "{new}: {err}");
+    }
+}
+
 /// A curve that is doubtful says why, in table, CSV and page.
 #[test]
 fn doubtful_curves_are_warned_of() {
@@ -167,8 +202,11 @@ fn doubtful_curves_are_warned_of() {
             "no absorbing layer is asked for along z",
         ),
         ("percent = 5", "percent = 10", "the moisture 10 % stands twice"),
-        ("tau = \"9 ps\"", "tau = 9", "a time without a unit is in s"),
+        ("tau = \"4 ps\"", "tau = 9", "a number without a unit is in s"),
         ("delay = \"400 ps\"", "delay = \"400 ns\"", "no numbers"),
+        ("tau = \"4 ps\"", "tau = \"16 ps\"", "loss is computed"),
+        ("thickness = 10", "thickness = 10\nkappa_max = 100", "the absorbing layer is weak"),
+        ("[wave.injector]", "[wave.slab]\nk1 = 85", "one of the wave's, stands in the absorbing layer"),
         (
             "[source.modulated]\nfrequency = \"10 GHz\"\nwidth = \"80 ps\"\ndelay = \"400 ps\"",
             "[source.continuous]\nfrequency = \"10 GHz\"\nramp = \"400 ps\"",

@@ -38,7 +38,12 @@ fn names(folder: &Folder) -> Vec<String> {
 #[test]
 fn no_output_takes_the_inputs_place_or_anothers() {
     let folder = Folder::new(HEAD);
-    for words in [["--csv", "head.toml", "--svg", "c.svg"], ["--csv", "c", "--html", "./c"], ["--csv", "new", "--svg", "new"]] {
+    for words in [
+        ["--csv", "head.toml", "--svg", "c.svg"],
+        ["--csv", "c", "--html", "./c"],
+        ["--csv", "new", "--svg", "new"],
+        ["--csv", "new", "--html", "./new"],
+    ] {
         fs::write(folder.path("c"), "old").unwrap();
         let (status, _, err) = folder.curve(&words);
         assert!(status == 1 && err.contains("named twice"), "{words:?}: {err}");

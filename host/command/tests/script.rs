@@ -205,6 +205,14 @@ fn doubtful_lines_are_warned_of() {
     assert_eq!(Folder::new("\u{feff}size 1 1 9\npitch 1mm courant=0.5\n").run(&[]).0, 0);
 }
 
+/// What begins a word is for people, what stands in one is not.
+#[test]
+fn names_may_have_the_mark_of_a_comment_in_them() {
+    let folder = Folder::new("size 1 1 9\npitch 1mm courant=0.5\nsave run#2.save #no more words\n");
+    assert_eq!(folder.run(&[]).0, 0);
+    assert!(folder.path("run#2.save").exists());
+}
+
 #[test]
 fn a_missing_layer_is_told() {
     let (status, out, _) = Folder::new("size 21 30 30\npitch 1mm courant=0.5\nedge layer axes=xy\n").run(&[]);

@@ -7,7 +7,9 @@ use std::path::Path;
 /// Writes a file under a temporary name in its folder, has it on the disk, and gives it its name then; the folder is synced too. Whatever happens, a file of
 /// that name is the old one or the new one. What is there and is no file, a pipe or a device, is written to as it stands.
 pub fn write_whole(path: &Path, bytes: &[u8]) -> io::Result<()> {
-    if fs::metadata(path).is_ok_and(|found| !found.is_file()) {
+    // what is below /dev and /proc may lead to a file that is open already, and is no name to be given
+    let special = path.starts_with("/dev") || path.starts_with("/proc");
+    if special || fs::metadata(path).is_ok_and(|found| !found.is_file()) {
         return File::options().write(true).open(path)?.write_all(bytes);
     }
     let folder = match path.parent() {

@@ -177,7 +177,12 @@ fn check_outputs(arguments: &Arguments, inputs: impl IntoIterator<Item = PathBuf
             return Err(format!("{}: there is no folder {}: make it first", path.display(), folder.display()));
         }
     }
-    let resolved = |path: &Path| path.canonicalize().unwrap_or_else(|_| path.to_path_buf());
+    // of a file that is not there yet, its folder's path and its name
+    let resolved = |path: &Path| {
+        let folder = path.parent().filter(|folder| *folder != Path::new("")).unwrap_or(Path::new("."));
+        let beside = || Some(folder.canonicalize().ok()?.join(path.file_name()?));
+        path.canonicalize().ok().or_else(beside).unwrap_or_else(|| path.to_path_buf())
+    };
     let mut taken = vec![resolved(&arguments.head)];
     taken.extend(inputs.into_iter().map(|path| resolved(&path)));
     for path in outputs(arguments) {
@@ -228,10 +233,8 @@ fn write_files(arguments: &Arguments, curve: &Curve, input: &Input) -> Result<()
         Some(path) => write_whole(path, bytes).map_err(|e| format!("{}: {e}", path.display())),
         None => Ok(()),
     };
-    let rows = table::csv(curve, &about).map_err(|e| e.to_string())?;
+    write(&arguments.csv, &table::csv(curve, &about).map_err(|e| e.to_string())?)?;
     let drawn = picture::svg(curve).map_err(|e| e.to_string())?;
-    let page = page::html(curve, &drawn, &input.text, &about);
-    write(&arguments.csv, &rows)?;
     write(&arguments.svg, drawn.as_bytes())?;
-    write(&arguments.html, page.as_bytes())
+    write(&arguments.html, page::html(curve, &drawn, &input.text, &about).as_bytes())
 }

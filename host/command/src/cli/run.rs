@@ -1,9 +1,10 @@
 //! `cichowiej run`.
 
 use super::{Failure, Input, print, stop_flag};
+use crate::curve::named;
 use crate::script;
-use cichowiej::Study;
-use std::path::{Path, PathBuf};
+use crate::standing::Save;
+use std::path::PathBuf;
 use std::process::ExitCode;
 
 #[derive(clap::Args)]
@@ -22,20 +23,11 @@ pub struct Arguments {
 
 pub fn run(arguments: &Arguments) -> Result<ExitCode, Failure> {
     let script = Input::read(&arguments.script)?;
-    let study = arguments.from.as_deref().map(read_save).transpose()?;
+    let study = arguments.from.as_deref().map(|path| Ok::<_, String>(Save::from_file(path)?.study)).transpose()?;
     if let Some(study) = &study {
-        let works: Vec<&str> =
-            ["x", "y", "z"].into_iter().zip(study.active()).filter(|(_, works)| *works).map(|(axis, _)| axis).collect();
-        let works = if works.is_empty() { "no axis".into() } else { works.join(", ") };
-        print(&format!("from a save of {} steps, absorbing layer works on {works}\n", study.steps()))?;
+        print(&format!("from a save of {} steps, absorbing layer works on {}\n", study.steps(), named(study.active())))?;
     }
     let stop = stop_flag()?;
     script::run(study, &script, arguments.hex, &mut |answer| Ok(print(answer)?), &stop)?;
     Ok(ExitCode::SUCCESS)
-}
-
-/// The study of a file.
-pub fn read_save(path: &Path) -> Result<Study, String> {
-    let bytes = std::fs::read(path).map_err(|e| format!("{}: {e}", path.display()))?;
-    Study::from_save(&bytes).map_err(|refusal| format!("{}: refused as {refusal}", path.display()))
 }

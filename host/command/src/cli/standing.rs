@@ -177,6 +177,13 @@ fn resume(arguments: &ResumeArguments) -> Result<(), Failure> {
     let standing = arguments.folder.standing();
     let parent = standing.save(&standing.resolve(&arguments.id)?)?;
     let input = Input::read(&arguments.script)?;
+    if let Some(line) = script::begins_anew(&input) {
+        return Err(format!(
+            "{}:{line}: it begins another study, which would not have grown from this one: take run and keep",
+            input.name
+        )
+        .into());
+    }
     let mut out = |text: &str| print(text).map_err(Failure::from);
     let study = script::run(Some(parent.study), &input, arguments.hex, &mut out, &stop)?;
     let study = study.ok_or_else(|| format!("{}: there is no study at its end, and nothing is kept", input.name))?;

@@ -1,6 +1,6 @@
 //! A point's reading as a small file of text, from which every number comes back as it was.
 
-use crate::cli::{program, sha256};
+use crate::cli::{UNKNOWN, program, sha256};
 use crate::curve::study::Reading;
 use cichowiej::{Complex, ENGINE, Layer};
 use serde::{Deserialize, Serialize};
@@ -75,7 +75,6 @@ struct Record {
     peak: Bits,
     end: Bits,
     transmitted: Sums,
-    incident: Sums,
     reflected: Option<Sums>,
 }
 
@@ -101,7 +100,6 @@ impl Record {
             peak: Bits(reading.peak),
             end: Bits(reading.end),
             transmitted: to_bits(&reading.transmitted),
-            incident: to_bits(&reading.incident),
             reflected: reading.reflected.as_deref().map(to_bits),
         }
     }
@@ -110,7 +108,6 @@ impl Record {
         Reading {
             transmitted: from_bits(&self.transmitted),
             reflected: self.reflected.as_ref().map(from_bits),
-            incident: from_bits(&self.incident),
             energy: self.energy.0,
             peak: self.peak.0,
             end: self.end.0,
@@ -149,7 +146,7 @@ pub fn parse(bytes: &[u8], digest: &str, number: usize) -> Result<Read, Unusable
     if record.engine != ENGINE {
         return Err(Unusable::OtherEngine(record.engine));
     }
-    if record.program != program() {
+    if record.program != program() || record.program == UNKNOWN {
         return Err(Unusable::OtherProgram);
     }
     if record.point != number {
@@ -183,9 +180,8 @@ mod tests {
 
     fn reading() -> Reading {
         Reading {
-            transmitted: vec![Complex::new(0.1, -0.0), Complex::new(f64::INFINITY, 5e-324)],
+            transmitted: vec![Complex::new(0.1, -0.0), Complex::new(f64::INFINITY, 5e-324), Complex::new(1.0 / 3.0, -1e300)],
             reflected: None,
-            incident: vec![Complex::new(1.0 / 3.0, -1e300); 2],
             energy: f64::NAN,
             peak: -f64::NAN,
             end: f64::MIN_POSITIVE,
@@ -200,7 +196,6 @@ mod tests {
         let back = parse(text.as_bytes(), "abc", 3).unwrap().reading;
         let bits = |sums: &[Complex]| -> Vec<u64> { sums.iter().flat_map(|sum| [sum.re.to_bits(), sum.im.to_bits()]).collect() };
         assert_eq!(bits(&back.transmitted), bits(&reading().transmitted));
-        assert_eq!(bits(&back.incident), bits(&reading().incident));
         assert!(back.energy.is_nan() && back.peak.is_nan() && back.end == f64::MIN_POSITIVE);
         assert_eq!((back.layer, back.reflected.is_none()), (reading().layer, true));
     }

@@ -3,10 +3,11 @@
 use crate::curve::plan::Plan;
 use crate::head::trouble::Trouble;
 use crate::head::{Cells, Edge, MaterialPart, PaperPart, PartOfPaper, PolePart};
-use cichowiej::Refusal;
+use cichowiej::{Refusal, Source};
 
 pub fn check(plan: &Plan) -> Result<(), Trouble> {
     periodic(plan)?;
+    source(plan)?;
     materials(plan)?;
     boxes(plan)?;
     order(plan)?;
@@ -21,6 +22,28 @@ fn periodic(plan: &Plan) -> Result<(), Trouble> {
         }
         _ => Ok(()),
     }
+}
+
+/// A pulse without a width has no spectrum, and a negative one hides its own.
+fn source(plan: &Plan) -> Result<(), Trouble> {
+    let (kind, parts) = match &plan.source {
+        Source::Gaussian { width, delay, .. } => ("gaussian", vec![("width", *width, true), ("delay", *delay, false)]),
+        Source::Modulated { width, delay, frequency, .. } => {
+            ("modulated", vec![("width", *width, true), ("delay", *delay, false), ("frequency", *frequency, true)])
+        }
+        Source::Continuous { frequency, ramp, .. } => {
+            ("continuous", vec![("frequency", *frequency, true), ("ramp", *ramp, false)])
+        }
+        Source::Table { samples } => ("table", samples.iter().map(|sample| ("samples", sample.abs(), false)).collect()),
+    };
+    for (name, number, positive) in parts {
+        let good = number.is_finite() && if positive { number > 0.0 } else { number >= 0.0 };
+        if !good {
+            let least = if positive { "larger than 0" } else { "0 or more" };
+            return Err(Trouble::at(format!("source.{kind}.{name}"), format!("it has to be a number, {least}")));
+        }
+    }
+    Ok(())
 }
 
 /// The wave has to meet, one after another: the plane that counts what comes back, its own first plane, the sheet, the plane behind it.
@@ -112,6 +135,14 @@ fn passive(part: &MaterialPart, key: &str) -> Result<(), Trouble> {
 
 /// A sheet whose box is not as thick as its caliper would have another weight.
 fn paper(plan: &Plan, part: &PaperPart) -> Result<(), Trouble> {
+    for (name, of) in [("fibre", &part.fibre), ("water", &part.water)] {
+        if of.material.mu_r != 1.0 {
+            return Err(Trouble::at(
+                format!("sheet.paper.{name}.material.mu_r"),
+                "the mixture knows no permeability: leave it out",
+            ));
+        }
+    }
     temperature(&part.fibre, "sheet.paper.fibre.temperature")?;
     temperature(&part.water, "sheet.paper.water.temperature")?;
     let caliper = part.caliper.0;

@@ -139,6 +139,15 @@ fn given(sheet: &Sheet) -> Result<Vec<Point>, Trouble> {
 /// From what a mill knows.
 fn mixed(part: &PaperPart) -> Result<Vec<Point>, Trouble> {
     let paper = part.paper();
+    let numbers = [
+        ("grammage", paper.grammage),
+        ("caliper", paper.caliper),
+        ("fibre.density", paper.fibre_density),
+        ("water.density", paper.water_density),
+    ];
+    if let Some((name, _)) = numbers.into_iter().find(|(_, number)| !(number.is_finite() && *number > 0.0)) {
+        return Err(Trouble::at(format!("sheet.paper.{name}"), "it has to be a number larger than 0"));
+    }
     let point = |(index, &moisture): (usize, &f64)| {
         let key = format!("sheet.paper.moistures[{index}]");
         let mixture = paper.shares(moisture).and_then(|shares| Ok((shares, paper.mixed(moisture)?)));

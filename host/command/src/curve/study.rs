@@ -13,7 +13,6 @@ use std::sync::atomic::{AtomicBool, Ordering};
 pub struct Reading {
     pub transmitted: Vec<Complex>,
     pub reflected: Option<Vec<Complex>>,
-    pub incident: Vec<Complex>,
     /// The energy in J that went through the plane behind the sheet.
     pub energy: f64,
     /// The field's energy in J at its largest, and at the end.
@@ -151,7 +150,6 @@ impl Plan<'_> {
 struct Listener {
     transmitted: PlaneSpectrum,
     reflected: Option<PlaneSpectrum>,
-    incident: PlaneSpectrum,
     behind: usize,
     between: f64,
     energy: f64,
@@ -167,7 +165,6 @@ impl Listener {
         Self {
             transmitted: spectrum(planes.transmitted),
             reflected: planes.reflected.map(spectrum),
-            incident: spectrum(planes.transmitted),
             behind: planes.transmitted,
             between,
             energy: 0.0,
@@ -181,7 +178,6 @@ impl Listener {
         if let Some(spectrum) = &mut self.reflected {
             spectrum.take(study);
         }
-        self.incident.add(study.incident(self.behind).unwrap_or(0.0));
         self.energy += study.plane_reading(self.behind)? * self.between;
         Ok(())
     }
@@ -197,7 +193,6 @@ impl Listener {
         Reading {
             transmitted: sums(self.transmitted),
             reflected: self.reflected.map(sums),
-            incident: sums(self.incident),
             energy: self.energy,
             peak: self.peak,
             end: self.end,

@@ -12,12 +12,14 @@ use crate::curve::study::Reading;
 pub fn warnings(plan: &Plan, readings: &[Reading], curve: &Curve) -> Vec<String> {
     let of_layer = [layer::absent(plan), layer::weak(plan), layer::shifted(plan), layer::inside(plan, readings)];
     let of_run =
-        [run::no_number(curve), run::unstable(plan), run::unfinished(plan, readings), run::gained(curve), run::faint(plan)];
+        [run::no_number(curve), run::unstable(plan), run::unfinished(plan, readings), run::gained(plan, curve), run::faint(plan)];
     let of_head = [
         head::coarse(plan),
         head::walled(plan),
         head::moistures(plan),
         head::slow_pole(plan),
+        head::first_order(plan),
+        head::boxed(plan),
         head::partial(plan),
         head::boxes(plan),
     ];

@@ -10,6 +10,9 @@ pub struct Trouble {
     message: String,
 }
 
+/// How deep brackets may stand in one another.
+const DEEPEST: usize = 64;
+
 #[derive(Debug, Clone, PartialEq)]
 enum Place {
     Key(String),
@@ -33,6 +36,21 @@ impl Trouble {
         let line = twice(&message).and_then(|key| Lines::of(text).again(&key)).unwrap_or(reported);
         let short = message.rsplit_once(" at line ").map_or(message.as_str(), |(short, _)| short);
         Self { place: Place::Line(line), message: short.into() }
+    }
+
+    /// A text whose brackets stand deeper in one another than any head's or note's: the reader of TOML would run out of its stack.
+    pub fn of_depth(text: &str) -> Option<Self> {
+        let (mut depth, mut deepest) = (0_usize, 0);
+        for c in text.chars() {
+            match c {
+                '[' | '{' => depth += 1,
+                ']' | '}' => depth = depth.saturating_sub(1),
+                _ => {}
+            }
+            deepest = deepest.max(depth);
+        }
+        (deepest > DEEPEST)
+            .then(|| Self::at(".", format!("brackets stand {deepest} deep in one another, and {DEEPEST} are the most")))
     }
 
     /// What is TOML and no head. The message's words for Rust's types are put into a reader's.

@@ -8,10 +8,10 @@ pub struct Words<'a> {
 }
 
 impl<'a> Words<'a> {
-    /// What stands behind # is for people.
+    /// From a word that begins with # on it is for people.
     pub fn of(line: &'a str) -> Self {
-        let text = line.split_once('#').map_or(line, |(text, _)| text);
-        let (pairs, alone): (Vec<&str>, Vec<&str>) = text.split_whitespace().partition(|word| word.contains('='));
+        let words = line.split_whitespace().take_while(|word| !word.starts_with('#'));
+        let (pairs, alone): (Vec<&str>, Vec<&str>) = words.partition(|word| word.contains('='));
         Self { alone: alone.into(), pairs: pairs.into_iter().filter_map(|word| word.split_once('=')).collect() }
     }
 

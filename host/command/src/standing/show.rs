@@ -1,5 +1,6 @@
 //! All that is known of a save.
 
+use crate::curve::named;
 use crate::standing::list::{counted, product};
 use crate::standing::note::{Note, plain};
 use crate::standing::{Noted, Save, Standing, short};
@@ -62,8 +63,8 @@ fn of_save(save: &Save) -> Result<Vec<Named>, String> {
         ("pitch", format!("{dx:?}, {dy:?}, {dz:?} m")),
         ("dt", format!("{:?} s", grid.dt)),
         ("Courant number", format!("{:.6}", grid.courant_number())),
-        ("periodic", axes(study.periodic())),
-        ("layer works on", axes(study.active())),
+        ("periodic", named(study.periodic())),
+        ("layer works on", named(study.active())),
         ("pole slots", grid.pole_slots.to_string()),
         ("materials", format!("{}, the vacuum among them", study.material_count())),
         ("steps", study.steps().to_string()),
@@ -71,9 +72,4 @@ fn of_save(save: &Save) -> Result<Vec<Named>, String> {
         ("energy", format!("{energy:?} J")),
         ("length", counted(save.bytes.len(), "byte")),
     ])
-}
-
-fn axes(on: [bool; 3]) -> String {
-    let names: Vec<&str> = ["x", "y", "z"].into_iter().zip(on).filter(|(_, on)| *on).map(|(name, _)| name).collect();
-    if names.is_empty() { "no axis".into() } else { names.join(", ") }
 }

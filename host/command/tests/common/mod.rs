@@ -49,7 +49,7 @@ material = { eps_inf = 2.0, sigma = 0.1 }
 
 [[sheet.moisture]]
 percent = 10
-material = { eps_inf = 3.0, poles = [{ debye = { delta_eps = 2.0, tau = "9 ps" } }] }
+material = { eps_inf = 3.0, poles = [{ debye = { delta_eps = 2.0, tau = "4 ps" } }] }
 "#;
 
 /// A folder with a head in it.

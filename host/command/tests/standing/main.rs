@@ -148,6 +148,9 @@ fn a_resume_that_fails_keeps_nothing() {
     assert!(place.bad(&["resume", &root, "nowhere.script"]).contains("nowhere.script: "));
     fs::write(place.path("bad.script"), "energy\nfly 3\n").unwrap();
     assert!(place.bad(&["resume", &root, "bad.script"]).contains("bad.script:2: "));
+    // another study would not have grown from this one
+    fs::write(place.path("other.script"), "energy\nsize 1 1 9\npitch 1mm courant=0.5\n").unwrap();
+    assert!(place.bad(&["resume", &root, "other.script"]).contains("other.script:3: it begins another study"));
     // what a script leaves as it was is there already
     fs::write(place.path("nothing.script"), "").unwrap();
     let (status, out, err) = place.run(&["resume", &root, "nothing.script"]);

@@ -8,8 +8,11 @@ use std::f64::consts::PI;
 /// Cells a wavelength below which the grid is called coarse.
 const FINE: f64 = 10.0;
 
-/// How far below the lowest gauge frequency a Debye pole's may lie.
+/// How far below the lowest gauge frequency a pole's may lie.
 const SLOW: f64 = 1e-3;
+
+/// The part by which a Debye pole's loss may be off.
+const FIRST_ORDER: f64 = 0.02;
 
 /// The medium with the fewest cells a wavelength.
 pub fn coarse(plan: &Plan) -> Option<String> {
@@ -50,19 +53,42 @@ pub fn moistures(plan: &Plan) -> Option<String> {
     Some(format!("the moisture {twice} % stands twice (a decimal comma makes two numbers of one)"))
 }
 
-/// A relaxation far below the gauge's frequencies does nothing there: mostly a time without its unit.
+/// Every material of the curve.
+fn materials(plan: &Plan) -> impl Iterator<Item = Material> {
+    let sheets = plan.points.iter().filter_map(|point| point.sheet.as_ref()).map(|sheet| sheet.material.clone());
+    sheets.chain(plan.materials().map(|(_, material)| material))
+}
+
+/// What lies far below the gauge's frequencies does nothing there: mostly a number without its unit.
 pub fn slow_pole(plan: &Plan) -> Option<String> {
     let lowest = plan.frequencies.iter().copied().fold(f64::INFINITY, f64::min);
-    let sheets = plan.points.iter().filter_map(|point| point.sheet.as_ref()).map(|sheet| sheet.material.clone());
+    let far = |rate: f64| rate < SLOW * 2.0 * PI * lowest;
     let slow = |pole: &Pole| match *pole {
-        Pole::Debye { tau, .. } => (1.0 / (2.0 * PI * tau) < SLOW * lowest).then_some(tau),
-        _ => None,
+        Pole::Debye { tau, .. } => far(1.0 / tau).then(|| format!("a Debye pole has tau = {tau:e} s")),
+        Pole::Lorentz { omega0, .. } => far(omega0).then(|| format!("a Lorentz pole has omega0 = {omega0:e} rad/s")),
+        Pole::Drude { omega_p, .. } => far(omega_p).then(|| format!("a Drude pole has omega_p = {omega_p:e} rad/s")),
     };
-    let tau =
-        sheets.chain(plan.materials().map(|(_, material)| material)).find_map(|material| material.poles.iter().find_map(slow))?;
-    Some(format!(
-        "a Debye pole has tau = {tau:e} s, which does nothing at the gauge's frequencies (a time without a unit is in s)"
-    ))
+    let told = materials(plan).find_map(|material| material.poles.iter().find_map(slow))?;
+    Some(format!("{told}, which does nothing at the gauge's frequencies (a number without a unit is in s or rad/s)"))
+}
+
+/// A Debye pole's recursion is of first order in the time step: with χ = Δε / (1 + iωτ - ω²τΔt/2) the loss is too large by ω²τΔt / (1 + ω²τ²).
+pub fn first_order(plan: &Plan) -> Option<String> {
+    let omega = 2.0 * PI * plan.frequencies.iter().copied().fold(0.0, f64::max);
+    let error = |pole: &Pole| match *pole {
+        Pole::Debye { tau, .. } => omega * omega * tau * plan.grid.dt / (1.0 + omega * omega * tau * tau),
+        _ => 0.0,
+    };
+    let most = materials(plan).flat_map(|material| material.poles).map(|pole| error(&pole)).fold(0.0, f64::max);
+    (most > FIRST_ORDER).then(|| {
+        format!("a Debye pole's loss is computed {:.1} % too large at the highest gauge frequency: take a smaller dt or courant, or smaller cells", 100.0 * most)
+    })
+}
+
+/// A box's wave fills a part of the plane, and the numbers are averages over the whole of it.
+pub fn boxed(plan: &Plan) -> Option<String> {
+    matches!(plan.head.wave, Wave::Box(_))
+        .then(|| "the wave fills a box, and the numbers are averages over whole planes, what lies beside it among them: take an injector or a slab".into())
 }
 
 /// Whether a range is the whole axis.

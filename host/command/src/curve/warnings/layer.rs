@@ -12,8 +12,9 @@ const SHIFTED: f64 = 3.0;
 /// Fewer cells reflect more than -60 dB (docs/VALIDATION.md has -47 dB for 5, -89 dB for 10).
 const LEAST_CELLS: usize = 8;
 
-/// The reflection that its conductivity may be chosen for: -60 dB.
+/// The reflection that its conductivity may be chosen for: -60 dB, and no less than is of use.
 const MOST_REFLECTION: f64 = 1e-3;
+const LEAST_REFLECTION: f64 = 1e-20;
 
 /// Along z, where the wave runs.
 pub fn absent(plan: &Plan) -> Option<String> {
@@ -25,9 +26,11 @@ pub fn absent(plan: &Plan) -> Option<String> {
 pub fn weak(plan: &Plan) -> Option<String> {
     let layer = plan.layer_on_z()?;
     let chosen_for = layer.target_reflection.powf(layer.sigma_scale);
-    let strong = layer.thickness >= LEAST_CELLS && (2.0..=6.0).contains(&layer.order) && chosen_for <= MOST_REFLECTION;
+    // a conductivity that is too steep for the cells, or a stretch too strong, reflects by itself
+    let graded = (2.0..=6.0).contains(&layer.order) && (1.0..=20.0).contains(&layer.kappa_max);
+    let strong = layer.thickness >= LEAST_CELLS && graded && (LEAST_REFLECTION..=MOST_REFLECTION).contains(&chosen_for);
     (!strong).then(|| {
-        format!("the absorbing layer is weak: take {LEAST_CELLS} cells or more, an order of 3 or 4, and leave target_reflection and sigma_scale as they are")
+        format!("the absorbing layer is weak: take {LEAST_CELLS} cells or more, an order of 3 or 4, and leave kappa_max, target_reflection and sigma_scale as they are")
     })
 }
 
@@ -51,10 +54,10 @@ pub fn inside(plan: &Plan, readings: &[Reading]) -> Option<String> {
     let works = readings.first().and_then(|empty| empty.layer).is_some_and(|layer| layer.active[2]);
     let (thick, nz) = (plan.layer_on_z()?.thickness, plan.grid.cells[2]);
     let planes = &plan.head.planes;
-    let (first, _) = plan.wave_planes();
+    let (first, last) = plan.wave_planes();
     let below = first < thick || planes.reflected.is_some_and(|back| back < thick);
-    let above = planes.transmitted.saturating_add(thick) >= nz;
+    let above = [Some(planes.transmitted), last].into_iter().flatten().any(|k| k.saturating_add(thick) >= nz);
     (works && (below || above)).then(|| {
-        format!("a plane, or the wave's first one, stands in the absorbing layer, which has {thick} cells at each end of z: move it, or take more cells")
+        format!("a plane that is read, or one of the wave's, stands in the absorbing layer, which has {thick} cells at each end of z: move it, or take more cells")
     })
 }

@@ -1,8 +1,8 @@
 //! The run: stable, long enough, with a source that has the gauge's frequencies.
 
-use crate::curve::Curve;
 use crate::curve::plan::Plan;
 use crate::curve::study::Reading;
+use crate::curve::{Curve, Value};
 use crate::output::table::in_hertz;
 use cichowiej::{PlaneSpectrum, Source};
 
@@ -49,12 +49,13 @@ pub fn unfinished(plan: &Plan, readings: &[Reading]) -> Option<String> {
     ))
 }
 
-/// More than was sent.
-pub fn gained(curve: &Curve) -> Option<String> {
-    let values = || curve.rows.iter().flat_map(|row| &row.values);
-    let back = values().filter_map(|value| value.reflected).any(|part| part > 1.001);
-    let through = values().any(|value| value.db > 0.5);
-    (back || through).then(|| {
+/// More than was sent. Where the head has boxes, a sheet may help the wave through them.
+pub fn gained(plan: &Plan, curve: &Curve) -> Option<String> {
+    let most_through = if plan.head.boxes.is_empty() { 0.005 } else { 0.5 };
+    let both = |value: &Value| 10f64.powf(value.db / 10.0) + value.reflected.unwrap_or(0.0);
+    let most_together = if plan.head.boxes.is_empty() { 1.001 } else { f64::INFINITY };
+    let gains = |value: &Value| value.db > most_through || value.reflected > Some(1.001) || both(value) > most_together;
+    curve.rows.iter().flat_map(|row| &row.values).any(gains).then(|| {
         "more comes back or through than is sent: this is no gauge's curve; look at the source's frequency, the layer and the boxes".into()
     })
 }

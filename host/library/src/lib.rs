@@ -14,7 +14,7 @@
 //! let layer = study.set_boundary_cpml(&CpmlConfig { axes: [false, false, true], ..CpmlConfig::default() })?;
 //! assert!(layer.is_whole());
 //! study.injector_z(20)?;
-//! let source = Source::gaussian_up_to(20e9);
+//! let source = Source::Modulated { amplitude: 1.0, width: 40e-12, delay: 160e-12, frequency: 10e9 };
 //! let samples: Vec<f64> = source.samples(study.time(), dt, 0).take(200).collect();
 //! study.run(&samples)?;
 //! assert!(study.total_energy()? > 0.0);

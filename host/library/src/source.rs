@@ -16,12 +16,6 @@ pub enum Source {
 }
 
 impl Source {
-    /// A Gaussian pulse whose spectrum reaches up to a frequency, where it has fallen to a ten-thousandth; it begins as weak as that squared.
-    pub fn gaussian_up_to(frequency: f64) -> Self {
-        let width = (1e4f64).ln().sqrt() / (PI * frequency);
-        Self::Gaussian { amplitude: 1.0, width, delay: 4.3 * width }
-    }
-
     /// What it gives at the time t, which is the end of the given step, counted from 0.
     pub fn at(&self, t: f64, step: usize) -> f64 {
         let bell = |width: f64, delay: f64| (-((t - delay) / width).powi(2)).exp();

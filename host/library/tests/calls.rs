@@ -125,7 +125,7 @@ fn studies_run_side_by_side_as_they_do_alone() {
         study.set_periodic([true, true, false]).unwrap();
         study.set_boundary_cpml(&CpmlConfig { axes: [false, false, true], ..CpmlConfig::default() }).unwrap();
         study.injector_z(15 + seed).unwrap();
-        let source = Source::gaussian_up_to(50e9);
+        let source = Source::Gaussian { amplitude: 1.0, width: 20e-12, delay: 80e-12 };
         let samples: Vec<f64> = source.samples(study.time(), study.grid().dt, 0).take(100).collect();
         study.run(&samples).unwrap();
         study.save().unwrap()

@@ -72,7 +72,8 @@ pub fn slow_pole(plan: &Plan) -> Option<String> {
     Some(format!("{told}, which does nothing at the gauge's frequencies (a number without a unit is in s or rad/s)"))
 }
 
-/// A Debye pole's recursion is of first order in the time step: with χ = Δε / (1 + iωτ - ω²τΔt/2) the loss is too large by ω²τΔt / (1 + ω²τ²).
+/// A Debye pole's recursion is of first order in the time step: with χ = Δε / (1 + iωτ - ω²τΔt/2) the loss is too large by ω²τΔt / (1 + ω²τ²), to
+/// first order.
 pub fn first_order(plan: &Plan) -> Option<String> {
     let omega = 2.0 * PI * plan.frequencies.iter().copied().fold(0.0, f64::max);
     let error = |pole: &Pole| match *pole {

@@ -9,7 +9,7 @@ use std::f64::consts::PI;
 /// How many times the lowest gauge frequency the layer's α may lie at.
 const SHIFTED: f64 = 3.0;
 
-/// Fewer cells reflect more than -60 dB (docs/VALIDATION.md has -47 dB for 5, -89 dB for 10).
+/// Where -60 dB is passed between the 5 cells (-47 dB) and the 10 (-89 dB) of docs/VALIDATION.md, with some room.
 const LEAST_CELLS: usize = 8;
 
 /// The reflection that its conductivity may be chosen for: -60 dB, and no less than is of use.

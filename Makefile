@@ -5,7 +5,9 @@ SHELL := /bin/bash -o pipefail
 .NOTPARALLEL:
 # What a failed rule has left is not taken for its result.
 .DELETE_ON_ERROR:
-.PHONY: curve man test format prove kit setup engine command compare host compare-long cluster-test bench validate
+.PHONY: curve man test format prove kit setup engine command compare host compare-long cluster-test bench by-turns validate
+# Another library than this tree's is for `by-turns` alone: no test is to be run on it unawares.
+unexport CICHOWIEJ_LIBRARY
 
 # What a curve needs is built first, each part with about how long it takes on two cores.
 EXAMPLE := office-80
@@ -84,6 +86,18 @@ bench: setup
 	rt staticlib api
 	cd oracle && cargo run --release -p bench
 	host/cargo bench --quiet -p cichowiej-command --bench stepping
+
+# The largest save by the library of another checkout and by this one's, by turns, by one bench: make by-turns BEFORE=FOLDER. There `rt staticlib api`
+# has been run.
+TURNS := 5
+by-turns:
+	@test -f "$(BEFORE)/target/staticlib/libapi.a" || { echo "make by-turns BEFORE=FOLDER, a checkout in which 'rt staticlib api' has been run"; exit 2; }
+	@$(MAKE) --no-print-directory engine
+	cd oracle && CICHOWIEJ_LIBRARY="$(abspath $(BEFORE))/target/staticlib" cargo build --quiet --release -p bench --target-dir ../target/before
+	cd oracle && cargo build --quiet --release -p bench --target-dir ../target/after
+	@for turn in $$(seq $(TURNS)); do \
+	  if [ $$((turn % 2)) = 1 ]; then order="before after"; else order="after before"; fi; \
+	  for which in $$order; do echo "turn $$turn, $$which:"; target/$$which/release/bench saves || exit 1; done; done
 
 # Is it physics? Slabs against the transfer matrix, the layer, a cavity, the mills' accident. It fails where a bound of docs/VALIDATION.md
 # is not met, or a table there is not the one computed.

@@ -8,9 +8,12 @@ use compare::engine::block::{MATERIALS, Material, PLACES, Pole};
 use compare::fill::{Fill, STORES};
 use compare::{Mix, Random, save};
 use std::hint::black_box;
+use std::io::{self, Write};
+use std::process::{Command, Stdio};
 
-/// As many cells and slots as there may be, and as many materials.
-const SIZES: [usize; 3] = [128, 128, 64];
+/// No save is longer: 2^20 cells, sides of 1,028 in sum and 512 along z are each the most that there may be, and so
+/// are the slots and the materials.
+const SIZES: [usize; 3] = [512, 4, 512];
 const ROUNDS: usize = 9;
 const MILLISECONDS: f64 = 1e3;
 
@@ -67,13 +70,14 @@ pub fn print() {
     }
     assert!(save::write(&study) == saved && copy == saved);
     assert_eq!(first_difference(&study, &other), None);
+    let digest = sha256(&saved).unwrap_or_else(|error| format!("not told: {error}"));
     drop((study, other, saved, copy));
 
     let [nx, ny, nz] = SIZES;
-    let megabytes = length as f64 / 1e6;
     println!(
-        "largest save: {nx}x{ny}x{nz} cells, {PLACES} slots, {MATERIALS} materials, {megabytes:.1} MB; ms, best of the rounds (median)"
+        "largest save: {nx}x{ny}x{nz} cells, {PLACES} slots, {MATERIALS} materials, {length} bytes; ms, best of the rounds (median)"
     );
+    println!("its SHA-256: {digest}");
     println!(
         "copy: as many bytes by copy_from_slice; the ratio is ours to the copy's, and the target the most it may be"
     );
@@ -93,4 +97,15 @@ fn copied(from: &[u8], to: &mut [u8]) -> f64 {
     let time = seconds(|| to.copy_from_slice(black_box(from)));
     black_box(to);
     time
+}
+
+/// By the system's `sha256sum`, so that the saves of two libraries can be compared.
+fn sha256(bytes: &[u8]) -> io::Result<String> {
+    let mut program = Command::new("sha256sum")
+        .stdin(Stdio::piped())
+        .stdout(Stdio::piped())
+        .spawn()?;
+    program.stdin.take().unwrap().write_all(bytes)?;
+    let said = String::from_utf8_lossy(&program.wait_with_output()?.stdout).into_owned();
+    Ok(said.split(' ').next().unwrap_or_default().to_string())
 }

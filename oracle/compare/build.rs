@@ -4,8 +4,7 @@ use std::env;
 use std::path::PathBuf;
 
 fn main() {
-    let package = PathBuf::from(env::var("CARGO_MANIFEST_DIR").unwrap());
-    let folder = package.ancestors().nth(2).unwrap().join("target/staticlib");
+    let folder = library_folder();
     let library = folder.join("libapi.a");
     assert!(
         library.exists(),
@@ -22,4 +21,12 @@ fn main() {
     }
     let original = env::var("DEP_PHYZ_EM_FOLDER").unwrap();
     println!("cargo::rustc-env=ORIGINAL={original}");
+}
+
+/// CICHOWIEJ_LIBRARY names the folder of another library than this tree's, so that two can be timed by one bench.
+fn library_folder() -> PathBuf {
+    println!("cargo::rerun-if-env-changed=CICHOWIEJ_LIBRARY");
+    let package = PathBuf::from(env::var("CARGO_MANIFEST_DIR").unwrap());
+    let own = package.ancestors().nth(2).unwrap().join("target/staticlib");
+    env::var("CICHOWIEJ_LIBRARY").map_or(own, PathBuf::from)
 }

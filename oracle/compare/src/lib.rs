@@ -1,10 +1,10 @@
 //! What the comparisons share: the engine's calls, the original's side, random studies and doubles,
 //! the save read once more, and when two numbers agree.
 
-use std::env;
 use std::io::{Write, stdout};
 use std::panic::{AssertUnwindSafe, catch_unwind};
 use std::path::{Path, PathBuf};
+use std::{env, fs};
 
 pub mod call;
 pub mod choose;
@@ -32,6 +32,30 @@ pub fn agree(a: f64, b: f64) -> bool {
 pub fn top() -> PathBuf {
     let package = Path::new(env!("CARGO_MANIFEST_DIR"));
     package.ancestors().nth(2).unwrap().into()
+}
+
+/// A file of the repository, by its path from the top.
+pub fn read(path: &str) -> String {
+    fs::read_to_string(top().join(path)).unwrap_or_else(|e| panic!("{path}: {e}"))
+}
+
+/// The files below a folder, as paths from the repository's top.
+pub fn files(folder: &str, ending: &str) -> Vec<String> {
+    fn walk(dir: &Path, ending: &str, out: &mut Vec<String>) {
+        for entry in fs::read_dir(dir).unwrap() {
+            let path = entry.unwrap().path();
+            if path.is_dir() {
+                walk(&path, ending, out);
+            } else if path.to_str().unwrap().ends_with(ending) {
+                let short = path.strip_prefix(top()).unwrap();
+                out.push(short.to_str().unwrap().to_string());
+            }
+        }
+    }
+    let mut out = Vec::new();
+    walk(&top().join(folder), ending, &mut out);
+    out.sort();
+    out
 }
 
 /// A whole number that an environment variable has, where it is set.

@@ -1,42 +1,15 @@
 //! The documents name files, definitions and edits: they are there, and what is there is named. No more is
 //! shown of what the documents say about them.
 
-use compare::{report, top};
+use compare::{files, read, report, top};
 use std::collections::{BTreeMap, BTreeSet};
-use std::fs;
 use std::path::Path;
 
-fn read(path: &str) -> String {
-    fs::read_to_string(top().join(path)).unwrap_or_else(|e| panic!("{path}: {e}"))
-}
-
 fn documents() -> Vec<(String, String)> {
-    let names = fs::read_dir(top().join("docs")).unwrap();
-    let names = names.map(|entry| format!("docs/{}", entry.unwrap().file_name().to_str().unwrap()));
-    let names = names.filter(|name| name.ends_with(".md"));
-    let mut all: Vec<String> = names.chain(["README.md".to_string()]).collect();
-    all.sort();
+    let mut all = files("docs", ".md");
+    all.push("README.md".to_string());
     let with_text = |name: String| (name.clone(), read(&name));
     all.into_iter().map(with_text).collect()
-}
-
-/// The files below a folder, as paths from the repository's top.
-fn files(folder: &str, ending: &str) -> Vec<String> {
-    fn walk(dir: &Path, ending: &str, out: &mut Vec<String>) {
-        for entry in fs::read_dir(dir).unwrap() {
-            let path = entry.unwrap().path();
-            if path.is_dir() {
-                walk(&path, ending, out);
-            } else if path.to_str().unwrap().ends_with(ending) {
-                let short = path.strip_prefix(top()).unwrap();
-                out.push(short.to_str().unwrap().to_string());
-            }
-        }
-    }
-    let mut out = Vec::new();
-    walk(&top().join(folder), ending, &mut out);
-    out.sort();
-    out
 }
 
 /// The words that look like a path of a source file, or of any file outside the crates.

@@ -52,7 +52,7 @@ pub fn put_word(out: &mut [u8], at: usize, n: u64) {
 }",
 );
 
-pub const ALL: [Doctored; 15] = [
+pub const ALL: [Doctored; 16] = [
     Doctored {
         what: "a scratch array, and its bytes copied",
         changes: &[Change(
@@ -283,6 +283,32 @@ pub const GH_LENGTH",
             (GRID, "pub payload: [u8; 125],"),
             (HEADS, "type Byte = u8;"),
         ],
+    },
+    Doctored {
+        what: "a number's bytes as the fields of a struct",
+        changes: &[
+            Change(
+                FLOATS,
+                PUT_F64,
+                "
+    let n = bits_of(x);
+    let low = Pair { a: (n % 256) as u8, b: (n / 256 % 256) as u8 };
+    out[at] = low.a;
+    out[at + 1] = low.b;
+",
+            ),
+            Change(
+                FLOATS,
+                "// An f64 as",
+                "
+struct Pair {
+    a: u8,
+    b: u8,
+}
+// An f64 as",
+            ),
+        ],
+        told: &[(FLOATS, "a: u8,"), (FLOATS, "b: u8,")],
     },
     Doctored {
         what: "bytes as text",

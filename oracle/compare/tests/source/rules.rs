@@ -66,14 +66,13 @@ fn is_literal(word: &Word) -> bool {
     typed || text.starts_with("b\"") || text.starts_with("b'")
 }
 
-/// Constants, fields and names of types hold no array of bytes, and a byte has no other name.
+/// Types and constants hold no bytes but a slice of somebody else's, and no type is another name for them.
 fn items(words: &[Word]) -> Lines {
     let mut out = Lines::new();
     for (at, word) in words.iter().enumerate() {
-        let before = |text: &str| at > 0 && words[at - 1].is(text);
-        let array = before("[") && !words[at + 1].is("]");
-        if is_literal(word) || (word.is("u8") && (array || before("="))) {
-            out.push((word.line, "an array of bytes, or a byte renamed".into()));
+        let slice = at > 0 && words[at - 1].is("[") && words[at + 1].is("]");
+        if is_literal(word) || (word.is("u8") && !slice) {
+            out.push((word.line, "bytes in a type or a constant".into()));
         }
     }
     out

@@ -88,10 +88,12 @@ bench: setup
 	host/cargo bench --quiet -p cichowiej-command --bench stepping
 
 # The largest save by the library of another checkout and by this one's, by turns, by one bench: make by-turns BEFORE=FOLDER. There `rt staticlib api`
-# has been run.
+# has been run, and the C functions are this tree's.
 TURNS := 5
 by-turns:
 	@test -f "$(BEFORE)/target/staticlib/libapi.a" || { echo "make by-turns BEFORE=FOLDER, a checkout in which 'rt staticlib api' has been run"; exit 2; }
+	@cmp -s "$(BEFORE)/include/cichowiej.rs" include/cichowiej.rs \
+	  || { echo "$(BEFORE) has other C functions than this tree (include/cichowiej.rs): run 'make bench' in each"; exit 2; }
 	@$(MAKE) --no-print-directory engine
 	cd oracle && CICHOWIEJ_LIBRARY="$(abspath $(BEFORE))/target/staticlib" cargo build --quiet --release -p bench --target-dir ../target/before
 	cd oracle && cargo build --quiet --release -p bench --target-dir ../target/after

@@ -18,9 +18,9 @@
  *
  *   - in every call but an opening and a rewind: BAD_STUDY for a block that is no record, before anything else is looked at (another
  *     length, a flag that is not 0 or 1, another region kind, a counted place with another tag, bytes that have to be zero and are not);
- *   - then what the record says: BAD_SIZE, BAD_SPACING, BAD_STUDY (pole slots, a count or a region's corners out of range, more poles in
- *     a material than slots or any in material 0, an active axis with the layer off); then BAD_STORE for what is lent; then the call's
- *     own, which stand beside it in their order;
+ *   - then what the record says: BAD_SIZE, BAD_SPACING, BAD_STUDY (constants, pole slots, a count or a region's corners out of range,
+ *     more poles in a material than slots or any in material 0, an active axis with the layer off); then BAD_STORE for what is lent;
+ *     then the call's own, which stand beside it in their order;
  *   - an opening and a rewind do not look at what the block holds: their arguments are judged first, and last, as BAD_STORE, the
  *     lengths of stores and block.
  *
@@ -37,7 +37,7 @@
  * or a save, it is 7FF8000000000000. Only in the bytes of a save is any other refused, as BAD_RECORD.
  *
  * The block is written by accepted calls alone. A step and a run write the clock in it, the bytes from CICHOWIEJ_AT_TIME up to
- * CICHOWIEJ_AT_MATERIALS, and nothing else; the readings and the save write nothing; any other call writes it whole.
+ * CICHOWIEJ_AT_CONSTANTS, and nothing else; the readings and the save write nothing; any other call writes it whole.
  */
 #ifndef CICHOWIEJ_H
 #define CICHOWIEJ_H
@@ -81,6 +81,10 @@ extern "C" {
 #define CICHOWIEJ_TRAILING 16        /* bytes behind the save's end: hand over the save alone */
 #define CICHOWIEJ_NO_SUCH_PLANE 17   /* k is at or above nz */
 
+/* ---- sets of constants: which eps0, mu0 and c0 a study has, chosen as it is opened */
+#define CICHOWIEJ_CONSTANTS_OLD 0  /* the older SI values: cichowiej_eps0 and its like */
+#define CICHOWIEJ_CONSTANTS_2019 1 /* CODATA 2018, after the SI of 2019: cichowiej_eps0_2019 and its like */
+
 /* ---- axes, added where several are meant: the answer of cichowiej_set_boundary_cpml, cichowiej_block_periodic, .._active */
 #define CICHOWIEJ_AXIS_X 1
 #define CICHOWIEJ_AXIS_Y 2
@@ -99,7 +103,7 @@ extern "C" {
 #define CICHOWIEJ_DEBYE 3   /* delta_eps, tau; likewise */
 
 /* ---- lengths of arrays; those of the stores are cichowiej_store_lengths' to say */
-#define CICHOWIEJ_BLOCK_LENGTH 2073   /* bytes of a block */
+#define CICHOWIEJ_BLOCK_LENGTH 2074   /* bytes of a block */
 #define CICHOWIEJ_MATERIAL_LENGTH 125 /* bytes of a material */
 #define CICHOWIEJ_POLE_LENGTH 25      /* bytes of a pole's place in a material */
 #define CICHOWIEJ_COEFFS_LENGTH 3     /* doubles: a1, a2, a3 */
@@ -127,7 +131,8 @@ extern "C" {
 #define CICHOWIEJ_AT_DT 53
 #define CICHOWIEJ_AT_TIME 61
 #define CICHOWIEJ_AT_STEPS 69          /* uint32_t */
-#define CICHOWIEJ_AT_MATERIALS 73      /* MAX_MATERIALS of them, MATERIAL_LENGTH bytes each; those past the material count are zero */
+#define CICHOWIEJ_AT_CONSTANTS 73      /* a byte */
+#define CICHOWIEJ_AT_MATERIALS 74      /* MAX_MATERIALS of them, MATERIAL_LENGTH bytes each; those past the material count are zero */
 
 /* ---- where a field of a material begins, in its bytes */
 #define CICHOWIEJ_MATERIAL_AT_EPS_INF 0     /* eps_inf, sigma, mu_r: double each. cichowiej_set_material has another order */
@@ -171,10 +176,13 @@ extern "C" {
 
 /* ==== the functions of the library */
 
-/* ---- constants of vacuum */
+/* ---- constants of vacuum: CONSTANTS_OLD, c0 as 1/sqrt(eps0 mu0); CONSTANTS_2019, c0 as it is stated */
 double cichowiej_eps0(void);
 double cichowiej_mu0(void);
 double cichowiej_c0(void);
+double cichowiej_eps0_2019(void);
+double cichowiej_mu0_2019(void);
+double cichowiej_c0_2019(void);
 
 /* ---- bare arithmetic: refuses nothing */
 double cichowiej_root(double x);
@@ -194,10 +202,11 @@ double cichowiej_stronger(double s, double v);
 
 /* ---- opening. Block and stores may hold anything before, and are written whole: fields, memories, poles and line +0.0, eps_r and mu_r
    1.0, sigma +0.0, ids 0, in the tables kinv 1.0, b and c +0.0; material 0, vacuum, alone; nothing periodic or active, the layer and
-   dispersion off, no region, time +0.0, no steps. BAD_SIZE, BAD_SPACING, BAD_STUDY (pole_slots), BAD_STORE (stores and block) */
-uint32_t cichowiej_open(uint8_t *block, size_t block_length, size_t nx, size_t ny, size_t nz, size_t pole_slots, double dx,
-                        double dy, double dz, double dt, double *e, size_t e_length, double *h, size_t h_length, double *media,
-                        size_t media_length, double *psi_e, size_t psi_e_length, double *psi_h, size_t psi_h_length,
+   dispersion off, no region, time +0.0, no steps. constants is CONSTANTS_OLD or CONSTANTS_2019, and stays as it was chosen until a
+   rewind, which brings the save's. BAD_SIZE, BAD_SPACING, BAD_STUDY (pole_slots, constants), BAD_STORE (stores and block) */
+uint32_t cichowiej_open(uint8_t *block, size_t block_length, size_t nx, size_t ny, size_t nz, size_t pole_slots, size_t constants,
+                        double dx, double dy, double dz, double dt, double *e, size_t e_length, double *h, size_t h_length,
+                        double *media, size_t media_length, double *psi_e, size_t psi_e_length, double *psi_h, size_t psi_h_length,
                         double *tables, size_t tables_length, double *poles, size_t poles_length, double *aux, size_t aux_length,
                         uint32_t *ids, size_t ids_length);
 
@@ -291,7 +300,8 @@ uint32_t cichowiej_save(const uint8_t *block, size_t block_length, const double 
                         size_t ids_length, uint8_t *out, size_t out_length);
 /* takes up the study that was saved: block and stores, which may hold anything before, are written whole. The save is judged first, part
    by part (SHORT, BAD_MARK, BAD_RECORD), then TRAILING, then BAD_STORE unless the stores have the lengths of the saved study and the
-   block its own */
+   block its own. A save of an older library, whose first part has no byte for the constants, is taken with CONSTANTS_OLD; saved again
+   it is a byte longer */
 uint32_t cichowiej_rewind(uint8_t *block, size_t block_length, const uint8_t *save, size_t save_length, double *e, size_t e_length,
                           double *h, size_t h_length, double *media, size_t media_length, double *psi_e, size_t psi_e_length,
                           double *psi_h, size_t psi_h_length, double *tables, size_t tables_length, double *poles,
@@ -402,7 +412,7 @@ static inline size_t cichowiej_table_place(size_t nx, size_t ny, size_t nz, uint
     return 6 * before + part * along + at;
 }
 
-/* ---- a pole's coefficients. In a step eps0 is cichowiej_eps0() */
+/* ---- a pole's coefficients. In a step eps0 is that of the study's constants */
 typedef struct cichowiej_coeffs {
     double a1, a2, a3;
 } cichowiej_coeffs;
@@ -564,6 +574,11 @@ static inline size_t cichowiej_block_pole_slots(const uint8_t *block)
     return block[CICHOWIEJ_AT_POLE_SLOTS];
 }
 
+static inline size_t cichowiej_block_constants(const uint8_t *block)
+{
+    return block[CICHOWIEJ_AT_CONSTANTS];
+}
+
 static inline uint32_t cichowiej_block_material_count(const uint8_t *block)
 {
     return block[CICHOWIEJ_AT_MATERIAL_COUNT];
@@ -670,10 +685,10 @@ typedef struct cichowiej_study {
 #define CICHOWIEJ_LENT_ALL                                                                                                               \
     CICHOWIEJ_LENT_FIELDS, CICHOWIEJ_LENT(media), CICHOWIEJ_LENT_LAYER, CICHOWIEJ_LENT(poles), CICHOWIEJ_LENT(aux), CICHOWIEJ_LENT(ids)
 
-static inline uint32_t cichowiej_study_open(cichowiej_study *study, size_t nx, size_t ny, size_t nz, size_t pole_slots, double dx,
-                                            double dy, double dz, double dt)
+static inline uint32_t cichowiej_study_open(cichowiej_study *study, size_t nx, size_t ny, size_t nz, size_t pole_slots,
+                                            size_t constants, double dx, double dy, double dz, double dt)
 {
-    return cichowiej_open(CICHOWIEJ_LENT_BLOCK, nx, ny, nz, pole_slots, dx, dy, dz, dt, CICHOWIEJ_LENT_ALL);
+    return cichowiej_open(CICHOWIEJ_LENT_BLOCK, nx, ny, nz, pole_slots, constants, dx, dy, dz, dt, CICHOWIEJ_LENT_ALL);
 }
 
 /* what cichowiej_set_material puts into a cell, by name */

@@ -9,6 +9,9 @@ unsafe extern "C" {
     pub safe fn cichowiej_eps0() -> f64;
     pub safe fn cichowiej_mu0() -> f64;
     pub safe fn cichowiej_c0() -> f64;
+    pub safe fn cichowiej_eps0_2019() -> f64;
+    pub safe fn cichowiej_mu0_2019() -> f64;
+    pub safe fn cichowiej_c0_2019() -> f64;
     pub safe fn cichowiej_root(x: f64) -> f64;
     pub safe fn cichowiej_cfl_number(c0: f64, dx: f64, dy: f64, dz: f64, dt: f64) -> f64;
     pub safe fn cichowiej_max_stable_dt(c0: f64, dx: f64, dy: f64, dz: f64, dt: f64) -> f64;
@@ -22,10 +25,10 @@ unsafe extern "C" {
 // An array is a pointer and the number of its elements.
 unsafe extern "C" {
     fn cichowiej_open(
-        block: *mut u8, block_length: usize, nx: usize, ny: usize, nz: usize, pole_slots: usize, dx: f64, dy: f64, dz: f64, dt: f64,
-        e: *mut f64, e_length: usize, h: *mut f64, h_length: usize, media: *mut f64, media_length: usize, psi_e: *mut f64, psi_e_length: usize,
-        psi_h: *mut f64, psi_h_length: usize, tables: *mut f64, tables_length: usize, poles: *mut f64, poles_length: usize,
-        aux: *mut f64, aux_length: usize, ids: *mut u32, ids_length: usize
+        block: *mut u8, block_length: usize, nx: usize, ny: usize, nz: usize, pole_slots: usize, constants: usize,
+        dx: f64, dy: f64, dz: f64, dt: f64, e: *mut f64, e_length: usize, h: *mut f64, h_length: usize, media: *mut f64, media_length: usize,
+        psi_e: *mut f64, psi_e_length: usize, psi_h: *mut f64, psi_h_length: usize, tables: *mut f64, tables_length: usize,
+        poles: *mut f64, poles_length: usize, aux: *mut f64, aux_length: usize, ids: *mut u32, ids_length: usize
     ) -> u32;
     fn cichowiej_set_material(
         block: *mut u8, block_length: usize, i0: usize, i1: usize, j0: usize, j1: usize, k0: usize, k1: usize, eps_r: f64, mu_r: f64, sigma: f64,
@@ -162,11 +165,18 @@ impl Lent {
         }
     }
 
-    pub fn open(&mut self, sizes: [usize; 3], pole_slots: usize, spacings: [f64; 4]) -> u32 {
+    /// Constants are 0, the older SI values, or 1, those of 2019.
+    pub fn open(
+        &mut self,
+        sizes: [usize; 3],
+        pole_slots: usize,
+        constants: usize,
+        spacings: [f64; 4],
+    ) -> u32 {
         let ([nx, ny, nz], [dx, dy, dz, dt]) = (sizes, spacings);
-        call!(cichowiej_open, mut self.block, nx, ny, nz, pole_slots, dx, dy, dz, dt, mut self.e,
-            mut self.h, mut self.media, mut self.psi_e, mut self.psi_h, mut self.tables,
-            mut self.poles, mut self.aux, mut self.ids,)
+        call!(cichowiej_open, mut self.block, nx, ny, nz, pole_slots, constants, dx, dy, dz, dt,
+            mut self.e, mut self.h, mut self.media, mut self.psi_e, mut self.psi_h,
+            mut self.tables, mut self.poles, mut self.aux, mut self.ids,)
     }
 
     /// Cells are i0, i1, j0, j1, k0, k1; numbers eps_r, mu_r, sigma.

@@ -31,7 +31,7 @@ fn material() -> Material {
 /// Opened, with so many materials.
 fn standing(materials: usize) -> Study {
     let mut study = Study::lent(SIZES, PLACES);
-    assert_eq!(study.open(SIZES, PLACES, [1e-3, 1e-3, 1e-3, 1e-12]), 0);
+    assert_eq!(study.open(SIZES, PLACES, 0, [1e-3, 1e-3, 1e-3, 1e-12]), 0);
     for _ in 1..materials {
         assert_eq!(study.apply(&Call::AddMaterial(material())).refusal, 0);
     }

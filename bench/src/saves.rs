@@ -29,7 +29,7 @@ struct Times {
 fn filled(seed: u64) -> Study {
     let mut random = Random::new(seed);
     let mut study = Study::lent(SIZES, PLACES);
-    assert_eq!(study.open(SIZES, PLACES, [1e-3, 1e-3, 1e-3, 1e-12]), 0);
+    assert_eq!(study.open(SIZES, PLACES, 0, [1e-3, 1e-3, 1e-3, 1e-12]), 0);
     let pole = Pole {
         tag: 1,
         numbers: [2.0, 1e11, 1e10],

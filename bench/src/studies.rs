@@ -166,6 +166,7 @@ impl Timed {
             spacings: self.spacings,
             time: 0.0,
             steps: 0,
+            constants: 0,
             materials: Vec::new(),
         }
     }

@@ -20,7 +20,7 @@ pub fn row(study: &Timed) -> String {
         assert!(!has_subnormals(&ours), "{}", study.name);
     }
     theirs.read();
-    if let Some(difference) = first_difference(&theirs.expected, &ours) {
+    if let Some(difference) = first_difference(theirs.expected(), &ours) {
         panic!("{}: {difference}", study.name);
     }
     let each = nanoseconds(study);
@@ -61,9 +61,10 @@ fn nanoseconds(study: &Timed) -> f64 {
 }
 
 fn set_up(study: &Timed) -> (Study, Theirs) {
-    let mut ours = Study::lent(study.sizes, study.pole_slots);
-    assert_eq!(ours.open(study.sizes, study.pole_slots, study.spacings), 0);
-    let mut theirs = Theirs::open(study.sizes, study.pole_slots, study.spacings);
+    let (sizes, slots, spacings) = (study.sizes, study.pole_slots, study.spacings);
+    let mut ours = Study::lent(sizes, slots);
+    assert_eq!(ours.open(sizes, slots, 0, spacings), 0);
+    let mut theirs = Theirs::open(sizes, slots, 0, spacings);
     for call in &study.calls {
         let answers = [ours.apply(call), theirs.apply(call)];
         assert_eq!(answers.map(|a| a.refusal), [0, 0], "{call:?}");

@@ -3,6 +3,7 @@
 #include "held.c"
 
 #include "bytes.c"
+#include "constants.c"
 #include "effects.c"
 #include "lengths.c"
 #include "limits.c"

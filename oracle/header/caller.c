@@ -27,7 +27,7 @@ static void step_a_wave(void)
     if (cichowiej_doubles(lengths) > DOUBLES || lengths.ids > CELLS)
         return;
     study.stores = cichowiej_stores_in(lengths, doubles, ids);
-    printf("open: refusal %" PRIu32 "\n", cichowiej_study_open(&study, 1, 1, CELLS, 0, 1.0, 1.0, 1.0, 1.0));
+    printf("open: refusal %" PRIu32 "\n", cichowiej_study_open(&study, 1, 1, CELLS, 0, CICHOWIEJ_CONSTANTS_OLD, 1.0, 1.0, 1.0, 1.0));
     printf("slab: refusal %" PRIu32 "\n", cichowiej_study_slab_z(&study, 10, 30));
     printf("step: refusal %" PRIu32 "\n", cichowiej_study_step(&study, 3.0));
     for (at = 0; at < lengths.aux; at++) {

@@ -27,7 +27,7 @@ static const theme themes[] = {
     {"limits", limits},     {"refusals", refusals}, {"precedence", precedence}, {"record", record},     {"materials", materials},
     {"poles", poles},       {"lengths", lengths},   {"parts", parts},           {"tables", tables},     {"walls", walls},
     {"regions", regions},   {"effects", effects},   {"steps", steps},           {"saves", saves},       {"pointers", pointers},
-    {"wrappers", wrappers}, {"bytes", bytes},       {"nans", nans},             {"overlap", overlap},
+    {"wrappers", wrappers}, {"bytes", bytes},       {"nans", nans},             {"overlap", overlap},   {"constants", constants},
 };
 
 static bool named(const char *name, int count, char **names)

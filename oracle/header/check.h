@@ -58,6 +58,7 @@ void regions(void);
 void effects(void);
 void steps(void);
 void saves(void);
+void constants(void);
 void pointers(void);
 void wrappers(void);
 void bytes(void);

@@ -63,7 +63,7 @@ static bool layer_opened(void)
 static bool clock_kept(void)
 {
     return memcmp(after_call.study.block + CICHOWIEJ_AT_TIME, before_call.study.block + CICHOWIEJ_AT_TIME,
-                  CICHOWIEJ_AT_MATERIALS - CICHOWIEJ_AT_TIME)
+                  CICHOWIEJ_AT_CONSTANTS - CICHOWIEJ_AT_TIME)
            == 0;
 }
 
@@ -143,7 +143,8 @@ static void of_opening(void)
     const cichowiej_stores *s = &after_call.study.stores;
     size_t at;
     lend(&after_call, 4, 5, 6, 1);
-    CHECK(cichowiej_study_open(&after_call.study, 4, 5, 6, 1, 1.0, 1.0, 1.0, 1.0) == CICHOWIEJ_ACCEPTED && layer_opened());
+    CHECK(cichowiej_study_open(&after_call.study, 4, 5, 6, 1, CICHOWIEJ_CONSTANTS_OLD, 1.0, 1.0, 1.0, 1.0) == CICHOWIEJ_ACCEPTED);
+    CHECK(layer_opened());
     CHECK(all_zero(s->e, s->lengths.e) && all_zero(s->h, s->lengths.h) && all_zero(s->poles, s->lengths.poles));
     CHECK(all_zero(s->aux, s->lengths.aux) && all_zero(s->media + CICHOWIEJ_PART_SIGMA * 120, 120));
     for (at = 0; at < 120; at++)

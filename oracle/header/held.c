@@ -14,7 +14,7 @@ void lend(held *to, size_t nx, size_t ny, size_t nz, size_t pole_slots)
 void open_held(held *to, size_t nx, size_t ny, size_t nz, size_t pole_slots)
 {
     lend(to, nx, ny, nz, pole_slots);
-    CHECK(cichowiej_study_open(&to->study, nx, ny, nz, pole_slots, 1.0, 1.0, 1.0, 1.0) == CICHOWIEJ_ACCEPTED);
+    CHECK(cichowiej_study_open(&to->study, nx, ny, nz, pole_slots, CICHOWIEJ_CONSTANTS_OLD, 1.0, 1.0, 1.0, 1.0) == CICHOWIEJ_ACCEPTED);
 }
 
 size_t *length_of(held *of, size_t store)

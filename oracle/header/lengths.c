@@ -10,11 +10,11 @@ static void of_stores(size_t nx, size_t ny, size_t nz, size_t pole_slots)
     lend(&lent, nx, ny, nz, pole_slots);
     for (store = 0; store < STORES; store++) {
         (*length_of(&lent, store))--;
-        CHECK(cichowiej_study_open(s, nx, ny, nz, pole_slots, 1.0, 1.0, 1.0, 1.0) == CICHOWIEJ_BAD_STORE);
+        CHECK(cichowiej_study_open(s, nx, ny, nz, pole_slots, CICHOWIEJ_CONSTANTS_OLD, 1.0, 1.0, 1.0, 1.0) == CICHOWIEJ_BAD_STORE);
         (*length_of(&lent, store)) += 2;
-        CHECK(cichowiej_study_open(s, nx, ny, nz, pole_slots, 1.0, 1.0, 1.0, 1.0) == CICHOWIEJ_BAD_STORE);
+        CHECK(cichowiej_study_open(s, nx, ny, nz, pole_slots, CICHOWIEJ_CONSTANTS_OLD, 1.0, 1.0, 1.0, 1.0) == CICHOWIEJ_BAD_STORE);
         (*length_of(&lent, store))--;
-        CHECK(cichowiej_study_open(s, nx, ny, nz, pole_slots, 1.0, 1.0, 1.0, 1.0) == CICHOWIEJ_ACCEPTED);
+        CHECK(cichowiej_study_open(s, nx, ny, nz, pole_slots, CICHOWIEJ_CONSTANTS_OLD, 1.0, 1.0, 1.0, 1.0) == CICHOWIEJ_ACCEPTED);
     }
 }
 
@@ -23,9 +23,9 @@ static uint32_t into(size_t block_length)
 {
     static uint8_t room[CICHOWIEJ_BLOCK_LENGTH + 1];
     const cichowiej_stores *s = &lent.study.stores;
-    return cichowiej_open(room, block_length, 2, 3, 4, 1, 1.0, 1.0, 1.0, 1.0, s->e, s->lengths.e, s->h, s->lengths.h, s->media,
-                          s->lengths.media, s->psi_e, s->lengths.psi_e, s->psi_h, s->lengths.psi_h, s->tables, s->lengths.tables,
-                          s->poles, s->lengths.poles, s->aux, s->lengths.aux, s->ids, s->lengths.ids);
+    return cichowiej_open(room, block_length, 2, 3, 4, 1, CICHOWIEJ_CONSTANTS_OLD, 1.0, 1.0, 1.0, 1.0, s->e, s->lengths.e, s->h,
+                          s->lengths.h, s->media, s->lengths.media, s->psi_e, s->lengths.psi_e, s->psi_h, s->lengths.psi_h, s->tables,
+                          s->lengths.tables, s->poles, s->lengths.poles, s->aux, s->lengths.aux, s->ids, s->lengths.ids);
 }
 
 static void of_bytes(void)

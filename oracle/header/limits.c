@@ -5,7 +5,7 @@
 static uint32_t opened(size_t nx, size_t ny, size_t nz, size_t pole_slots)
 {
     static cichowiej_study study;
-    return cichowiej_study_open(&study, nx, ny, nz, pole_slots, 1.0, 1.0, 1.0, 1.0);
+    return cichowiej_study_open(&study, nx, ny, nz, pole_slots, CICHOWIEJ_CONSTANTS_OLD, 1.0, 1.0, 1.0, 1.0);
 }
 
 static void sides(void)

@@ -45,7 +45,7 @@ static void stepped_with(uint32_t (*take)(cichowiej_study *))
     CHECK(take(&after_odd.study) == CICHOWIEJ_ACCEPTED);
     CHECK(memcmp(block, old, CICHOWIEJ_AT_TIME) == 0 && memcmp(block + CICHOWIEJ_AT_TIME, the_nan, 8) == 0);
     CHECK(cichowiej_block_steps(block) == 1);
-    CHECK(memcmp(block + CICHOWIEJ_AT_MATERIALS, old + CICHOWIEJ_AT_MATERIALS, CICHOWIEJ_BLOCK_LENGTH - CICHOWIEJ_AT_MATERIALS) == 0);
+    CHECK(memcmp(block + CICHOWIEJ_AT_CONSTANTS, old + CICHOWIEJ_AT_CONSTANTS, CICHOWIEJ_BLOCK_LENGTH - CICHOWIEJ_AT_CONSTANTS) == 0);
 }
 
 static uint32_t take_step(cichowiej_study *study)

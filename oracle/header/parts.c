@@ -77,7 +77,7 @@ static void plane(void)
     cichowiej_stores *s = &grown.study.stores;
     double reading = 0.0;
     lend(&grown, 2, 3, 4, 0);
-    CHECK(cichowiej_study_open(&grown.study, 2, 3, 4, 0, 2.0, 3.0, 5.0, 1.0) == CICHOWIEJ_ACCEPTED);
+    CHECK(cichowiej_study_open(&grown.study, 2, 3, 4, 0, CICHOWIEJ_CONSTANTS_OLD, 2.0, 3.0, 5.0, 1.0) == CICHOWIEJ_ACCEPTED);
     s->e[CICHOWIEJ_PART_X * s->lengths.ids + cichowiej_cell(2, 3, 1, 2, 3)] = 7.0;
     s->h[CICHOWIEJ_PART_Y * s->lengths.ids + cichowiej_cell(2, 3, 1, 2, 3)] = 11.0;
     CHECK(cichowiej_study_plane_reading(&grown.study, 3, &reading) == CICHOWIEJ_ACCEPTED && reading == 7.0 * 11.0 * 6.0);

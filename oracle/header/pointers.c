@@ -24,7 +24,7 @@ static void no_stores(void)
     static cichowiej_study bare; /* its stores are NULL, its lengths 0 */
     static uint8_t save[SAVE];
     size_t length = 0;
-    CHECK(cichowiej_study_open(&bare, 2, 2, 2, 0, 1.0, 1.0, 1.0, 1.0) == CICHOWIEJ_BAD_STORE);
+    CHECK(cichowiej_study_open(&bare, 2, 2, 2, 0, CICHOWIEJ_CONSTANTS_OLD, 1.0, 1.0, 1.0, 1.0) == CICHOWIEJ_BAD_STORE);
     open_held(&lent_to, 2, 2, 2, 0);
     CHECK(cichowiej_study_save_length(&lent_to.study, &length) == CICHOWIEJ_ACCEPTED);
     CHECK(cichowiej_study_save(&lent_to.study, save, length) == CICHOWIEJ_ACCEPTED);

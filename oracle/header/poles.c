@@ -74,7 +74,7 @@ static void stepped(void)
     cichowiej_study *s = &before.study;
     size_t c, cell;
     lend(&before, 2, 3, 2, CICHOWIEJ_MAX_POLE_SLOTS);
-    CHECK(cichowiej_study_open(s, 2, 3, 2, CICHOWIEJ_MAX_POLE_SLOTS, 1.0, 1.0, 1.0, DT) == CICHOWIEJ_ACCEPTED);
+    CHECK(cichowiej_study_open(s, 2, 3, 2, CICHOWIEJ_MAX_POLE_SLOTS, CICHOWIEJ_CONSTANTS_OLD, 1.0, 1.0, 1.0, DT) == CICHOWIEJ_ACCEPTED);
     CHECK(cichowiej_study_add_material(s, &material, NULL) == CICHOWIEJ_ACCEPTED);
     CHECK(cichowiej_study_build_dispersion(s) == CICHOWIEJ_ACCEPTED);
     fill(&before, 1);

@@ -14,12 +14,12 @@ static void opening(void)
 {
     cichowiej_study *s = opened_whole();
     s->stores.lengths.e++;
-    CHECK(cichowiej_study_open(s, 0, 4, 5, 5, 0.0, 1.0, 1.0, 1.0) == CICHOWIEJ_BAD_SIZE);
-    CHECK(cichowiej_study_open(s, 3, 4, 5, 5, 0.0, 1.0, 1.0, 1.0) == CICHOWIEJ_BAD_SPACING);
-    CHECK(cichowiej_study_open(s, 3, 4, 5, 5, 1.0, 1.0, 1.0, 1.0) == CICHOWIEJ_BAD_STUDY);
-    CHECK(cichowiej_study_open(s, 3, 4, 5, 1, 1.0, 1.0, 1.0, 1.0) == CICHOWIEJ_BAD_STORE);
+    CHECK(cichowiej_study_open(s, 0, 4, 5, 5, CICHOWIEJ_CONSTANTS_OLD, 0.0, 1.0, 1.0, 1.0) == CICHOWIEJ_BAD_SIZE);
+    CHECK(cichowiej_study_open(s, 3, 4, 5, 5, CICHOWIEJ_CONSTANTS_OLD, 0.0, 1.0, 1.0, 1.0) == CICHOWIEJ_BAD_SPACING);
+    CHECK(cichowiej_study_open(s, 3, 4, 5, 5, CICHOWIEJ_CONSTANTS_OLD, 1.0, 1.0, 1.0, 1.0) == CICHOWIEJ_BAD_STUDY);
+    CHECK(cichowiej_study_open(s, 3, 4, 5, 1, CICHOWIEJ_CONSTANTS_OLD, 1.0, 1.0, 1.0, 1.0) == CICHOWIEJ_BAD_STORE);
     s->stores.lengths.e--;
-    CHECK(cichowiej_study_open(s, 3, 4, 5, 1, 1.0, 1.0, 1.0, 1.0) == CICHOWIEJ_ACCEPTED);
+    CHECK(cichowiej_study_open(s, 3, 4, 5, 1, CICHOWIEJ_CONSTANTS_OLD, 1.0, 1.0, 1.0, 1.0) == CICHOWIEJ_ACCEPTED);
 }
 
 /* the block's faults come one behind the other, and before those of a call */

@@ -7,17 +7,17 @@ static void sizes_and_spacings(void)
 {
     cichowiej_study *s = &filed.study;
     lend(&filed, 300, 1, 1, 0);
-    CHECK(cichowiej_study_open(s, 300, 1, 1, 0, 1.5, 2.5, 3.5, 4.5) == CICHOWIEJ_ACCEPTED);
+    CHECK(cichowiej_study_open(s, 300, 1, 1, 0, CICHOWIEJ_CONSTANTS_OLD, 1.5, 2.5, 3.5, 4.5) == CICHOWIEJ_ACCEPTED);
     CHECK(cichowiej_block_nx(s->block) == 300 && cichowiej_block_ny(s->block) == 1 && cichowiej_block_nz(s->block) == 1);
     CHECK(cichowiej_study_box_region(s, 257, 299, 0, 0, 0, 0) == CICHOWIEJ_ACCEPTED);
     CHECK(cichowiej_block_region(s->block).i0 == 257 && cichowiej_block_region(s->block).i1 == 299);
     lend(&filed, 1, 299, 2, 0);
-    CHECK(cichowiej_study_open(s, 1, 299, 2, 0, 1.5, 2.5, 3.5, 4.5) == CICHOWIEJ_ACCEPTED);
+    CHECK(cichowiej_study_open(s, 1, 299, 2, 0, CICHOWIEJ_CONSTANTS_OLD, 1.5, 2.5, 3.5, 4.5) == CICHOWIEJ_ACCEPTED);
     CHECK(cichowiej_block_nx(s->block) == 1 && cichowiej_block_ny(s->block) == 299 && cichowiej_block_nz(s->block) == 2);
     CHECK(cichowiej_study_box_region(s, 0, 0, 258, 298, 0, 1) == CICHOWIEJ_ACCEPTED);
     CHECK(cichowiej_block_region(s->block).j0 == 258 && cichowiej_block_region(s->block).j1 == 298);
     lend(&filed, 2, 1, 298, 3);
-    CHECK(cichowiej_study_open(s, 2, 1, 298, 3, 1.5, 2.5, 3.5, 4.5) == CICHOWIEJ_ACCEPTED);
+    CHECK(cichowiej_study_open(s, 2, 1, 298, 3, CICHOWIEJ_CONSTANTS_OLD, 1.5, 2.5, 3.5, 4.5) == CICHOWIEJ_ACCEPTED);
     CHECK(cichowiej_block_nx(s->block) == 2 && cichowiej_block_ny(s->block) == 1 && cichowiej_block_nz(s->block) == 298);
     CHECK(cichowiej_study_slab_z(s, 259, 297) == CICHOWIEJ_ACCEPTED);
     CHECK(cichowiej_block_region(s->block).k0 == 259 && cichowiej_block_region(s->block).k1 == 297);
@@ -75,7 +75,7 @@ static void clock_moved(void)
     static const double samples[300] = {0.0};
     cichowiej_study *s = &filed.study;
     lend(&filed, 1, 1, 1, 0);
-    CHECK(cichowiej_study_open(s, 1, 1, 1, 0, 1.0, 1.0, 1.0, 0.5) == CICHOWIEJ_ACCEPTED);
+    CHECK(cichowiej_study_open(s, 1, 1, 1, 0, CICHOWIEJ_CONSTANTS_OLD, 1.0, 1.0, 1.0, 0.5) == CICHOWIEJ_ACCEPTED);
     CHECK(cichowiej_study_run(s, samples, LENGTH(samples)) == CICHOWIEJ_ACCEPTED);
     CHECK(cichowiej_block_time(s->block) == 150.0 && cichowiej_block_steps(s->block) == 300);
     cichowiej_put_number(s->block + CICHOWIEJ_AT_STEPS, 4, 0x01020304);

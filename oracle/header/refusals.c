@@ -12,11 +12,12 @@ static cichowiej_study *refusing(void)
 static void of_the_record(void)
 {
     cichowiej_study *s = refusing();
-    CHECK(cichowiej_study_open(s, 3, 0, 5, 1, 1.0, 1.0, 1.0, 1.0) == CICHOWIEJ_BAD_SIZE);
-    CHECK(cichowiej_study_open(s, 3, 4, 5, 1, 1.0, 0.0, 1.0, 1.0) == CICHOWIEJ_BAD_SPACING);
-    CHECK(cichowiej_study_open(s, 3, 4, 5, 1, 1.0, 1.0, 1.0, -1.0) == CICHOWIEJ_BAD_SPACING);
-    CHECK(cichowiej_study_open(s, 3, 4, 5, CICHOWIEJ_MAX_POLE_SLOTS + 1, 1.0, 1.0, 1.0, 1.0) == CICHOWIEJ_BAD_STUDY);
-    CHECK(cichowiej_study_open(s, 3, 4, 6, 1, 1.0, 1.0, 1.0, 1.0) == CICHOWIEJ_BAD_STORE);
+    CHECK(cichowiej_study_open(s, 3, 0, 5, 1, CICHOWIEJ_CONSTANTS_OLD, 1.0, 1.0, 1.0, 1.0) == CICHOWIEJ_BAD_SIZE);
+    CHECK(cichowiej_study_open(s, 3, 4, 5, 1, CICHOWIEJ_CONSTANTS_OLD, 1.0, 0.0, 1.0, 1.0) == CICHOWIEJ_BAD_SPACING);
+    CHECK(cichowiej_study_open(s, 3, 4, 5, 1, CICHOWIEJ_CONSTANTS_OLD, 1.0, 1.0, 1.0, -1.0) == CICHOWIEJ_BAD_SPACING);
+    CHECK(cichowiej_study_open(s, 3, 4, 5, CICHOWIEJ_MAX_POLE_SLOTS + 1, CICHOWIEJ_CONSTANTS_OLD, 1.0, 1.0, 1.0, 1.0)
+          == CICHOWIEJ_BAD_STUDY);
+    CHECK(cichowiej_study_open(s, 3, 4, 6, 1, CICHOWIEJ_CONSTANTS_OLD, 1.0, 1.0, 1.0, 1.0) == CICHOWIEJ_BAD_STORE);
     CHECK(cichowiej_study_set_periodic(s, true, true, true) == CICHOWIEJ_ACCEPTED);
     s->block[CICHOWIEJ_AT_PERIODIC] = 2;
     CHECK(cichowiej_study_set_periodic(s, true, true, true) == CICHOWIEJ_BAD_STUDY);

@@ -47,7 +47,7 @@ static void clock_alone(void)
     standing_still();
     CHECK(cichowiej_study_step(&walked.study, 1.0) == CICHOWIEJ_ACCEPTED);
     CHECK(memcmp(block, old, CICHOWIEJ_AT_TIME) == 0);
-    CHECK(memcmp(block + CICHOWIEJ_AT_MATERIALS, old + CICHOWIEJ_AT_MATERIALS, CICHOWIEJ_BLOCK_LENGTH - CICHOWIEJ_AT_MATERIALS) == 0);
+    CHECK(memcmp(block + CICHOWIEJ_AT_CONSTANTS, old + CICHOWIEJ_AT_CONSTANTS, CICHOWIEJ_BLOCK_LENGTH - CICHOWIEJ_AT_CONSTANTS) == 0);
     CHECK(cichowiej_block_steps(block) == 1 && cichowiej_block_time(block) == 1.0);
 }
 

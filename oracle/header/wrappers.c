@@ -45,7 +45,8 @@ static cichowiej_media some_media(void)
 #define LAYER LENT(psi_e), LENT(psi_h), LENT(tables)
 #define ALL FIELDS, LENT(media), LAYER, LENT(poles), LENT(aux), LENT(ids)
 
-BOTH(open, cichowiej_study_open(s, 4, 5, 6, 1, 1.5, 2.5, 3.5, 4.5), cichowiej_open(BLOCK, 4, 5, 6, 1, 1.5, 2.5, 3.5, 4.5, ALL))
+BOTH(open, cichowiej_study_open(s, 4, 5, 6, 1, CICHOWIEJ_CONSTANTS_2019, 1.5, 2.5, 3.5, 4.5),
+     cichowiej_open(BLOCK, 4, 5, 6, 1, CICHOWIEJ_CONSTANTS_2019, 1.5, 2.5, 3.5, 4.5, ALL))
 BOTH(set_material, cichowiej_study_set_material(s, 0, 1, 1, 3, 2, 5, some_media()),
      cichowiej_set_material(BLOCK, 0, 1, 1, 3, 2, 5, 2.0, 3.0, 5.0, LENT(media)))
 BOTH(add_material, cichowiej_study_add_material(s, &material_taken, &to->number),

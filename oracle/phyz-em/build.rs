@@ -1,15 +1,32 @@
 //! Makes a crate of the original's files. Nothing of them comes into the repository: each is copied
 //! into the folder of built things, with `pub` put before every struct and field that has none. The
 //! comparison reads and fills arrays that the original keeps to itself (the layer's memories and
-//! tables, the polarizations); no line that computes is another one.
+//! tables, the polarizations); no line that computes is another one in phyz-em.
 //!
 //! They are looked for in the folder that PHYZ_EM_SRC names, taken from the repository's top, and
 //! without it in the documents' folder beside the repository.
+//!
+//! The crate phyz-em-2019 is made by this file too. In its copy the lines that say EPS0, MU0 and c0
+//! say the constants of document 02's S-7, so that a study that has them is compared in every bit as
+//! well.
 
 use std::path::{Path, PathBuf};
 use std::{env, fs};
 
 const USUAL: &str = "../shared/docs/src/crates/phyz-em/src";
+
+/// Each text of the original that says a constant, how often it stands there, and what the copy of
+/// phyz-em-2019 has in its place. Every other use goes by these.
+const CONSTANTS: [(&str, usize, &str); 4] = [
+    ("f64 = 8.854187817e-12;", 1, "f64 = 8.8541878128e-12;"),
+    (
+        "f64 = 4.0 * std::f64::consts::PI * 1e-7;",
+        1,
+        "f64 = 1.25663706212e-6;",
+    ),
+    ("1.0 / (EPS0 * MU0).sqrt()", 2, "299792458.0"),
+    ("1.0 / (eps0 * mu0).sqrt()", 1, "299792458.0"),
+];
 
 fn main() {
     println!("cargo::rerun-if-env-changed=PHYZ_EM_SRC");
@@ -27,9 +44,31 @@ fn main() {
         println!("cargo::rustc-cfg=original");
         println!("cargo::metadata=found=yes");
     }
+    let mut texts: Vec<String> = files.iter().map(|file| text(file)).collect();
+    if env::var("CARGO_PKG_NAME").unwrap() == "phyz-em-2019" && !files.is_empty() {
+        for constant in &CONSTANTS {
+            put(constant, &mut texts);
+        }
+    }
     let out = PathBuf::from(env::var("OUT_DIR").unwrap());
-    let lib: String = files.iter().map(|file| declaration(file, &out)).collect();
+    let modules = files.iter().zip(&texts);
+    let lib: String = modules
+        .map(|(file, text)| declaration(file, text, &out))
+        .collect();
     fs::write(out.join("lib.rs"), lib).unwrap();
+}
+
+fn text(file: &Path) -> String {
+    fs::read_to_string(file).unwrap()
+}
+
+/// Puts a constant into all texts. One that stands elsewhere than it is known to would be left as it is.
+fn put((old, times, new): &(&str, usize, &str), texts: &mut [String]) {
+    let found: usize = texts.iter().map(|text| text.matches(old).count()).sum();
+    assert_eq!(found, *times, "places in the original that say {old}");
+    for text in texts {
+        *text = text.replace(old, new);
+    }
 }
 
 fn source_folder() -> PathBuf {
@@ -51,10 +90,10 @@ fn rust_files(folder: &Path) -> Vec<PathBuf> {
 }
 
 /// Puts the opened copy of a file into `out`, and declares it as a module.
-fn declaration(file: &Path, out: &Path) -> String {
+fn declaration(file: &Path, text: &str, out: &Path) -> String {
     let module = file.file_stem().unwrap().to_str().unwrap();
     let copy = out.join(format!("opened_{module}.rs"));
-    fs::write(&copy, opened(&fs::read_to_string(file).unwrap())).unwrap();
+    fs::write(&copy, opened(text)).unwrap();
     format!(
         "#[path = {:?}]\npub mod {module};\n",
         copy.display().to_string()

@@ -104,18 +104,18 @@ lent-well {A} f standing r r' s s' b {b'} {q} {n} {t} h eo eb =
     go zero = refl
     go (suc n) = sym (left-alone n standing s b) ∙ left-alone n r s b
 
-module _ (nx ny nz slots : ℕ) (spacings : Spacings) (b : List ℕ) (s : Stores) where
-  pub open-ill : {r : Record} {f n : ℕ} → (length b ≡ blockLength → ⊥) → r ≡ openRecord nx ny nz slots spacings → f ≡ faultOf r → n ≡ lentFault f false → sent n b s ≡ openOnBlock nx ny nz slots spacings b s
+module _ (nx ny nz slots : ℕ) (spacings : Spacings) (constants : ℕ) (b : List ℕ) (s : Stores) where
+  pub open-ill : {r : Record} {f n : ℕ} → (length b ≡ blockLength → ⊥) → r ≡ openRecord nx ny nz slots spacings constants → f ≡ faultOf r → n ≡ lentFault f false → sent n b s ≡ openOnBlock nx ny nz slots spacings constants b s
   unfolding openOnBlock faultLent
   open-ill h er ef en =
-      let r = openRecord nx ny nz slots spacings in
+      let r = openRecord nx ny nz slots spacings constants in
       lent-ill (faultOf r) (sameLengths (lengthsOf s) (storeLengths r)) r r s (openStores r) b h (en ∙ ap (λ (x : ℕ). lentFault x false) (ef ∙ ap faultOf er))
 
   pub open-well : (standing : Record) {b' : List ℕ} {q : Record} {n : ℕ} {s' : Stores} → length b ≡ blockLength
-      → outcome n q s' ≡ openCall standing nx ny nz slots spacings s → b' ≡ blockAfter n q b → sent n b' s' ≡ openOnBlock nx ny nz slots spacings b s
+      → outcome n q s' ≡ openCall standing nx ny nz slots spacings constants s → b' ≡ blockAfter n q b → sent n b' s' ≡ openOnBlock nx ny nz slots spacings constants b s
   unfolding openOnBlock openCall
   open-well standing h eo eb =
-      let r = openRecord nx ny nz slots spacings in
+      let r = openRecord nx ny nz slots spacings constants in
       lent-well (faultWith r (lengthsOf s)) standing r r s (openStores r) b h eo eb
 
 module _ (save b : List ℕ) (s : Stores) where

@@ -34,6 +34,29 @@ pub extern "C" fn cichowiej_c0() -> f64
     root::vacuum::c0()
 }
 
+// the same by CODATA 2018
+
+#[no_mangle]
+pub extern "C" fn cichowiej_eps0_2019() -> f64
+    ensures { λ r. ⌜ r ≡ vacuum.eps02019 ⌝ }
+{
+    root::vacuum::eps0_2019()
+}
+
+#[no_mangle]
+pub extern "C" fn cichowiej_mu0_2019() -> f64
+    ensures { λ r. ⌜ r ≡ vacuum.mu02019 ⌝ }
+{
+    root::vacuum::mu0_2019()
+}
+
+#[no_mangle]
+pub extern "C" fn cichowiej_c0_2019() -> f64
+    ensures { λ r. ⌜ r ≡ vacuum.c02019 ⌝ }
+{
+    root::vacuum::c0_2019()
+}
+
 // ---- the square root and the Courant numbers
 
 #[no_mangle]

@@ -1,6 +1,6 @@
 // What is read from the fields. The block is left.
 ghost use mathlib.Core.Path.{_≡_};
-ghost use Rattle.root.specs.Constants.{eps0, mu0};
+ghost use Rattle.grid.specs.Vacuum.{epsOf, muOf};
 ghost use Rattle.root.specs.Rounded.{zeroF};
 ghost use Rattle.fields.specs.Fields.{energyCall, planeCall};
 ghost use Rattle.calls.specs.Blocks.{readout, readBlock, answered, answering};
@@ -18,7 +18,7 @@ pub extern "C" fn cichowiej_total_energy(
     media: &[f64],
     energy: &mut [f64],
 ) -> u32
-    ensures { λ n. ⌜ readout n (now (energy .exit)) ≡ readBlock (λ r. answering (energyCall eps0 mu0 r (now (e .entry)) (now (h .entry)) (now (media .entry))) (now (energy .entry))) (now (b .entry)) (answered zeroF (now (energy .entry))) ⌝ }
+    ensures { λ n. ⌜ readout n (now (energy .exit)) ≡ readBlock (λ r. answering (energyCall (epsOf r) (muOf r) r (now (e .entry)) (now (h .entry)) (now (media .entry))) (now (energy .entry))) (now (b .entry)) (answered zeroF (now (energy .entry))) ⌝ }
     ensures honest { λ n. ⌜ Reading (now (b .entry)) (now (b .entry)) (λ s. (s .electric ≡ now (e .entry)) × (s .magnetic ≡ now (h .entry)) × (s .media ≡ now (media .entry))) (doing (totalEnergy (length (now (energy .entry))))) n (now (energy .entry)) (now (energy .exit)) ⌝ }
 {
     on_block::readings::total_energy(b, e, h, media, energy)

@@ -17,6 +17,7 @@ pub extern "C" fn cichowiej_open(
     ny: usize,
     nz: usize,
     pole_slots: usize,
+    constants: usize,
     dx: f64,
     dy: f64,
     dz: f64,
@@ -31,8 +32,8 @@ pub extern "C" fn cichowiej_open(
     aux: &mut [f64],
     ids: &mut [u32],
 ) -> u32
-    ensures { λ n. ⌜ sent n (now (b .exit)) (stores (now (e .exit)) (now (h .exit)) (now (media .exit)) (now («psi_e» .exit)) (now («psi_h» .exit)) (now (tables .exit)) (now (poles .exit)) (now (aux .exit)) (now (ids .exit))) ≡ openOnBlock nx ny nz «pole_slots» (record { dx = dx; dy = dy; dz = dz; dt = dt }) (now (b .entry)) (stores (now (e .entry)) (now (h .entry)) (now (media .entry)) (now («psi_e» .entry)) (now («psi_h» .entry)) (now (tables .entry)) (now (poles .entry)) (now (aux .entry)) (now (ids .entry))) ⌝ }
-    ensures honest { λ n. ⌜ Silently (now (b .entry)) (now (b .exit)) (λ s. s ≡ stores (now (e .entry)) (now (h .entry)) (now (media .entry)) (now («psi_e» .entry)) (now («psi_h» .entry)) (now (tables .entry)) (now (poles .entry)) (now (aux .entry)) (now (ids .entry))) (λ s. stores (now (e .exit)) (now (h .exit)) (now (media .exit)) (now («psi_e» .exit)) (now («psi_h» .exit)) (now (tables .exit)) (now (poles .exit)) (now (aux .exit)) (now (ids .exit))) (opening (record { nx = nx; ny = ny; nz = nz; slots = «pole_slots»; spacings = record { dx = dx; dy = dy; dz = dz; dt = dt } }) (record { block = length (now (b .entry)); stores = lengthsOf (stores (now (e .entry)) (now (h .entry)) (now (media .entry)) (now («psi_e» .entry)) (now («psi_h» .entry)) (now (tables .entry)) (now (poles .entry)) (now (aux .entry)) (now (ids .entry))) })) n ⌝ }
+    ensures { λ n. ⌜ sent n (now (b .exit)) (stores (now (e .exit)) (now (h .exit)) (now (media .exit)) (now («psi_e» .exit)) (now («psi_h» .exit)) (now (tables .exit)) (now (poles .exit)) (now (aux .exit)) (now (ids .exit))) ≡ openOnBlock nx ny nz «pole_slots» (record { dx = dx; dy = dy; dz = dz; dt = dt }) constants (now (b .entry)) (stores (now (e .entry)) (now (h .entry)) (now (media .entry)) (now («psi_e» .entry)) (now («psi_h» .entry)) (now (tables .entry)) (now (poles .entry)) (now (aux .entry)) (now (ids .entry))) ⌝ }
+    ensures honest { λ n. ⌜ Silently (now (b .entry)) (now (b .exit)) (λ s. s ≡ stores (now (e .entry)) (now (h .entry)) (now (media .entry)) (now («psi_e» .entry)) (now («psi_h» .entry)) (now (tables .entry)) (now (poles .entry)) (now (aux .entry)) (now (ids .entry))) (λ s. stores (now (e .exit)) (now (h .exit)) (now (media .exit)) (now («psi_e» .exit)) (now («psi_h» .exit)) (now (tables .exit)) (now (poles .exit)) (now (aux .exit)) (now (ids .exit))) (opening (record { nx = nx; ny = ny; nz = nz; slots = «pole_slots»; spacings = record { dx = dx; dy = dy; dz = dz; dt = dt }; constants = constants }) (record { block = length (now (b .entry)); stores = lengthsOf (stores (now (e .entry)) (now (h .entry)) (now (media .entry)) (now («psi_e» .entry)) (now («psi_h» .entry)) (now (tables .entry)) (now (poles .entry)) (now (aux .entry)) (now (ids .entry))) })) n ⌝ }
 {
     on_block::studies::open(
         b,
@@ -40,6 +41,7 @@ pub extern "C" fn cichowiej_open(
         ny,
         nz,
         pole_slots,
+        constants,
         dx,
         dy,
         dz,

@@ -139,11 +139,11 @@ five-again a b c d e ha hb hc hd he t =
     let t2 = and-left (fine a && fine b) (fine c) t3 in
     rw (float-back a ha (and-left (fine a) (fine b) t2), float-back b hb (and-right (fine a) (fine b) t2), float-back c hc (and-right (fine a && fine b) (fine c) t3), float-back d hd (and-right (fine a && fine b && fine c) (fine d) t4), float-back e he (and-right (fine a && fine b && fine c && fine d) (fine e) t))
 
-gathered : (l f g x : List ℕ) → length l ≡ 26 → f ≡ getD l 3 0 ∷ getD l 4 0 ∷ getD l 5 0 ∷ getD l 6 0 ∷ getD l 7 0 ∷ getD l 8 0 ∷ getD l 9 0 ∷ [] →
+gathered : (l f g x : List ℕ) → length l ≡ 27 → f ≡ getD l 3 0 ∷ getD l 4 0 ∷ getD l 5 0 ∷ getD l 6 0 ∷ getD l 7 0 ∷ getD l 8 0 ∷ getD l 9 0 ∷ [] →
     g ≡ getD l 13 0 ∷ getD l 14 0 ∷ getD l 15 0 ∷ getD l 16 0 ∷ getD l 17 0 ∷ getD l 18 0 ∷ getD l 19 0 ∷ [] → x ≡ getD l 20 0 ∷ getD l 21 0 ∷ getD l 22 0 ∷ getD l 23 0 ∷ getD l 24 0 ∷ [] →
-    (getD l 0 0 ∷ getD l 1 0 ∷ getD l 2 0 ∷ []) ++ f ++ (getD l 10 0 ∷ getD l 11 0 ∷ getD l 12 0 ∷ g) ++ x ++ (getD l 25 0 ∷ []) ≡ l
+    (getD l 0 0 ∷ getD l 1 0 ∷ getD l 2 0 ∷ []) ++ f ++ (getD l 10 0 ∷ getD l 11 0 ∷ getD l 12 0 ∷ g) ++ x ++ (getD l 25 0 ∷ getD l 26 0 ∷ []) ≡ l
 unfolding joined
-gathered l f g x e p q r = rw (p, q, r) (places l 26 e)
+gathered l f g x e p q r = rw (p, q, r) (places l 27 e)
 
 -- the flags and the kind of a head that is fine
 record Flags (l : List ℕ) : Type 0 where
@@ -184,14 +184,14 @@ flags-of l t =
       f13 = and-right (a && b && c && d && e && f && g) h t;
     }
 
-pub head-again : (l : List ℕ) (ms : List DispersiveMaterial) → length l ≡ 26 → T (fitAll ghWidths l) → ghFine l ≡ true → ghNums (ghOf l ms) ≡ l
+pub head-again : (l : List ℕ) (ms : List DispersiveMaterial) → length l ≡ 27 → T (fitAll ghWidths l) → ghFine l ≡ true → ghNums (ghOf l ms) ≡ l
 unfolding ghNums ghOf ghFine ghShaped cornersFine allBelow
 head-again l ms e t f =
     let n : ℕ → ℕ = λ i. getD l i 0 in
     let floats = fine (n 20) && fine (n 21) && fine (n 22) && fine (n 23) && fine (n 24) in
     let two = and-left (flagsFine l && cornersFine l) floats f in
     let k = flags-of l (and-left (flagsFine l) (cornersFine l) two) in
-    let w : (i : ℕ) → i < 26 → n i < 256 ^ getD ghWidths i 0 = λ i h. fit-at ghWidths l i t h in
+    let w : (i : ℕ) → i < 27 → n i < 256 ^ getD ghWidths i 0 = λ i h. fit-at ghWidths l i t h in
     gathered l _ _ _ e (seven-again (n 3) (n 4) (n 5) (n 6) (n 7) (n 8) (n 9) (k .f3) (k .f4) (k .f5) (k .f6) (k .f7) (k .f8) (k .f9))
     (region-again (n 13) (n 14) (n 15) (n 16) (n 17) (n 18) (n 19) (k .f13) (and-right (flagsFine l) (cornersFine l) two))
     (five-again (n 20) (n 21) (n 22) (n 23) (n 24) (w 20 (omega arith)) (w 21 (omega arith)) (w 22 (omega arith)) (w 23 (omega arith)) (w 24 (omega arith)) (and-right (flagsFine l && cornersFine l) floats f))

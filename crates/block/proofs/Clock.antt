@@ -39,9 +39,16 @@ nums-front (w ∷ ws) p q r h =
     let k : total ws ≤ length (drop w p) = omega (arith, length-drop w p) in
     rw (take-append-le w p q a, take-append-le w p r a, drop-append-le w p q a, drop-append-le w p r a, nums-front ws (drop w p) q r k)
 
--- GH but for its clock
+-- GH up to its clock
 abbrev firstWidths : List ℕ
 firstWidths = planWidths ++ cornerWidths ++ (8 ∷ 8 ∷ 8 ∷ 8 ∷ [])
+
+-- and what follows the clock
+abbrev pastPlace : ℕ
+pastPlace = clockPlace + 12
+
+abbrev pastWidths : List ℕ
+pastWidths = 1 ∷ []
 
 all-same : (f g : ℕ → Bool) (n : ℕ) → ((i : ℕ) → f i ≡ g i) → allBelow f n ≡ allBelow g n
 unfolding allBelow
@@ -60,12 +67,15 @@ module _ (b : List ℕ) (c : Clock) (long : length b ≡ blockLength) where
   unfolding clockPut
   after-long = put-length b clockPlace (clockBytes c) (omega (arith, bytes-long, long)) ∙ long
 
-  -- past the head nothing changes
-  entries-same : entries after ≡ entries b
+  -- past the clock nothing changes
+  past-same : drop pastPlace after ≡ drop pastPlace b
   unfolding clockPut
-  entries-same =
-      let e : clockPlace + length (clockBytes c) ≡ ghLength = omega (arith, bytes-long) in
+  past-same =
+      let e : clockPlace + length (clockBytes c) ≡ pastPlace = omega (arith, bytes-long) in
       ap (λ (n : ℕ). drop n after) (sym e) ∙ drop-past b clockPlace (clockBytes c) (omega (arith, long)) ∙ ap (λ (n : ℕ). drop n b) e
+
+  entries-same : entries after ≡ entries b
+  entries-same = sym (drop-drop 1 pastPlace after) ∙ ap (drop 1) past-same ∙ drop-drop 1 pastPlace b
 
   -- up to the clock neither
   first-same : nums firstWidths after ≡ nums firstWidths b
@@ -86,13 +96,26 @@ module _ (b : List ℕ) (c : Clock) (long : length b ≡ blockLength) where
         ap (nums clockWidths) (drop-put b clockPlace (clockBytes c) (omega (arith, long)))
         ∙ nums-enc clockWidths two (drop (clockPlace + length (clockBytes c)) b) (fit-cons 8 _ _ _ (bits-small (c .time) t) (fit-cons 4 _ _ _ s fit-nil))
 
-    head-after : headOf after ≡ nums firstWidths b ++ two
-    unfolding total
-    head-after = nums-append firstWidths clockWidths after ∙ ap (λ (x : List ℕ). nums firstWidths after ++ x) last-is ∙ ap (λ (x : List ℕ). x ++ two) first-same
+    abbrev last : List ℕ
+    last = nums pastWidths (drop pastPlace b)
 
-    head-before : headOf b ≡ nums firstWidths b ++ nums clockWidths (drop clockPlace b)
+    -- GH in three parts
+    in-three : (l : List ℕ) → headOf l ≡ nums firstWidths l ++ (nums clockWidths (drop clockPlace l) ++ nums pastWidths (drop pastPlace l))
     unfolding total
-    head-before = nums-append firstWidths clockWidths b
+    in-three l =
+        nums-append firstWidths (clockWidths ++ pastWidths) l
+        ∙ ap (λ (x : List ℕ). nums firstWidths l ++ x)
+        (nums-append clockWidths pastWidths (drop clockPlace l) ∙ ap (λ (x : List ℕ). nums clockWidths (drop clockPlace l) ++ nums pastWidths x) (drop-drop 12 clockPlace l))
+
+    head-after : headOf after ≡ nums firstWidths b ++ (two ++ last)
+    head-after =
+        in-three after
+        ∙ ap (λ (x : List ℕ). nums firstWidths after ++ (x ++ nums pastWidths (drop pastPlace after))) last-is
+        ∙ ap (λ (x : List ℕ). nums firstWidths after ++ (two ++ nums pastWidths x)) past-same
+        ∙ ap (λ (x : List ℕ). x ++ (two ++ last)) first-same
+
+    head-before : headOf b ≡ nums firstWidths b ++ (nums clockWidths (drop clockPlace b) ++ last)
+    head-before = in-three b
 
     shaped-same : ghShaped (headOf after) ≡ ghShaped (headOf b)
     unfolding ghShaped flagsFine cornersFine nums allBelow
@@ -116,7 +139,7 @@ module _ (b : List ℕ) (c : Clock) (long : length b ≡ blockLength) where
     unfolding blockRecord ghOf nums
     clock-record =
         let ms : List DispersiveMaterial = materialsOf (countOf (headOf b)) (entries b) in
-        let moved : ghOf (nums firstWidths b ++ two) ms ≡ withClock (ghOf (nums firstWidths b ++ nums clockWidths (drop clockPlace b)) ms) c = rw (ofBits-toBits binary64 (c .time) t) in
+        let moved : ghOf (nums firstWidths b ++ (two ++ last)) ms ≡ withClock (ghOf (nums firstWidths b ++ (nums clockWidths (drop clockPlace b) ++ last)) ms) c = rw (ofBits-toBits binary64 (c .time) t) in
         ap (λ (n : ℕ). ghOf (headOf after) (materialsOf n (entries after))) count-same
         ∙ ap (λ (l : List ℕ). ghOf (headOf after) (materialsOf (countOf (headOf b)) l)) entries-same
         ∙ ap (λ (l : List ℕ). ghOf l ms) head-after

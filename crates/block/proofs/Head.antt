@@ -1,4 +1,4 @@
--- The record itself as its twenty-six numbers: they fit their widths, are found fine, and say the record again, without what means nothing. Assumes nothing.
+-- The record itself as its twenty-seven numbers: they fit their widths, are found fine, and say the record again, without what means nothing. Assumes nothing.
 use Prim.Native.Nat.{ℕ, zero, suc, _≤_, _<_}
 use native.Mathlib.Nat.{eq-or-lt-of-le, le-of-suc-le-suc}
 use native.Mathlib.Omega.{arith}
@@ -21,9 +21,9 @@ use Rattle.grid.specs.declared.RegionKind.the-variants.{Absent, SlabZ, Injector
 use Rattle.grid.specs.declared.Region.{Region}
 use Rattle.grid.specs.declared.Record.{Record}
 use Rattle.grid.specs.Canon.{keepFirst, canonMaterial, regionBy, canonRegion, canon}
-use Rattle.grid.specs.Fault.{isAbsent, cornersFit, regionFits, countsFit, polesFit, layerFits, studyFits, spacingsFit, sizeFits, poleCount, allBelow, faultOf}
+use Rattle.grid.specs.Fault.{isAbsent, cornersFit, regionFits, openedFit, countsFit, polesFit, layerFits, studyFits, spacingsFit, sizeFits, poleCount, allBelow, faultOf}
 use Rattle.grid.specs.Inner.Sound.{Sound}
-use Rattle.grid.proofs.Judging.{sound}
+use Rattle.grid.proofs.Judging.{sound, constants-of}
 use Rattle.grid.proofs.Tests.{and-left, and-right, first-none}
 use Rattle.heads.specs.Numbers.{flagNum, kindNum, kindOf, ghWidths, flagNums, floatNums, ghNums, flagsFine, cornersFine, ghShaped, ghFine, ghOf}
 use Rattle.block.specs.Inner.Held.{Held}
@@ -49,7 +49,7 @@ parts-of r e =
 built-of : (r : Record) → countsFit r ≡ true → r .«built_count» ≤ r .«material_count»
 unfolding countsFit
 built-of r e =
-    let three = leb (r .«pole_slots») 4 && leb 1 (r .«material_count») && leb (r .«material_count») 16 in
+    let three = openedFit r && leb 1 (r .«material_count») && leb (r .«material_count») 16 in
     let built = leb (r .«built_count») (r .«material_count») in
     leb-true _ _ (and-right three built (and-left (three && built) (eqb (poleCount r 0) 0) e))
 
@@ -185,12 +185,12 @@ module _ (r : Record) (ok : faultOf r ≡ 0) (h : Held r) where
   pub head-fit : T (fitAll ghWidths (ghNums r))
   unfolding ghNums
   head-fit =
-      fit-append _ (4 ∷ []) _ (r .clock .steps ∷ [])
+      fit-append _ (4 ∷ 1 ∷ []) _ (r .clock .steps ∷ r .constants ∷ [])
       (fit-append _ (8 ∷ 8 ∷ 8 ∷ 8 ∷ 8 ∷ []) _ (floatNums (r .spacings) (r .clock .time))
       (fit-append _ (1 ∷ 1 ∷ 1 ∷ 1 ∷ 2 ∷ 2 ∷ 2 ∷ 2 ∷ 2 ∷ 2 ∷ []) _ _
       (fit-append (2 ∷ 2 ∷ 2 ∷ []) (1 ∷ 1 ∷ 1 ∷ 1 ∷ 1 ∷ 1 ∷ 1 ∷ []) (r .nx ∷ r .ny ∷ r .nz ∷ []) (flagNums (r .periodic) (r .active) (r .«layer_on»)) sizes-fit flags-fit)
       (counts-fit (canonRegion (r .region)) corners)) floats-fit)
-      (fit-cons 4 _ _ _ (h .steps) fit-nil)
+      (fit-cons 4 _ _ _ (h .steps) (fit-cons 1 _ _ _ (omega (arith, constants-of r ok)) fit-nil))
 
   flags-fine : flagsFine (ghNums r) ≡ true
   unfolding flagsFine ghNums allBelow

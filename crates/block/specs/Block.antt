@@ -1,6 +1,6 @@
 -- The study record as one block of bytes that a caller holds: the payload of GH, then sixteen entries, each counted one as in ML (document 01, "The save"),
 -- every other one zero bytes. Definitions only.
-use Prim.Native.Nat.{ℕ, _+_, _-_, _*_}
+use Prim.Native.Nat.{ℕ, _+_, _*_}
 use mathlib.Core.Bool.{Bool, cond, _&&_}
 use mathlib.Core.List.{List, [], _∷_, _++_}
 use lib.Dec.{ltb, eqb}
@@ -24,12 +24,12 @@ entryBytes r i = cond (ltb i (r .«material_count»)) (materialBytes (getD (r .m
 unfoldable pub blockOf : Record → List ℕ
 blockOf r = headBytes r ++ joined 16 (entryBytes r)
 
--- the time and the steps alone, which are the last twelve bytes of GH
+-- the time and the steps alone: twelve bytes of GH; one byte follows them, the constants
 abbrev pub clockWidths : List ℕ
 clockWidths = 8 ∷ 4 ∷ []
 
 abbrev pub clockPlace : ℕ
-clockPlace = ghLength - 12
+clockPlace = 61
 
 unfoldable pub clockBytes : Clock → List ℕ
 clockBytes c = enc clockWidths (bits (c .time) ∷ c .steps ∷ [])

@@ -24,8 +24,8 @@ const ENTRIES: usize = 16;
 
 pub const BLOCK_LENGTH: usize = GH_LENGTH + ENTRIES * ML_LENGTH;
 
-// Time and steps are the last twelve bytes of GH.
-const CLOCK_PLACE: usize = GH_LENGTH - 12;
+// Time and steps are twelve bytes of GH; the constants follow them.
+const CLOCK_PLACE: usize = 61;
 
 // Without a branch, so that it is compiled to vector code.
 fn all_zero(s: &[u8]) -> bool

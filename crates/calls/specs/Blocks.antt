@@ -64,9 +64,9 @@ readBlock f b kept = cond (blockFine b) (readout (f (blockRecord b) .refusal) (f
 unfoldable pub lentBlock : (fault block : ℕ) → ℕ
 lentBlock f n = orElse f (first (eqb n blockLength) badStore 0)
 
-unfoldable pub openOnBlock : (nx ny nz slots : ℕ) → Spacings → List ℕ → Stores → Sent Stores
-openOnBlock nx ny nz slots spacings b s =
-    let r = openRecord nx ny nz slots spacings in
+unfoldable pub openOnBlock : (nx ny nz slots : ℕ) → Spacings → (constants : ℕ) → List ℕ → Stores → Sent Stores
+openOnBlock nx ny nz slots spacings constants b s =
+    let r = openRecord nx ny nz slots spacings constants in
     passed (settle (lentBlock (faultWith r (lengthsOf s)) (length b)) r s r (openStores r)) b
 
 unfoldable pub rewindOnBlock : (save : List ℕ) → List ℕ → Stores → Sent Stores

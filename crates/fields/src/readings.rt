@@ -3,7 +3,7 @@ ghost use mathlib.Core.Path.{_≡_};
 ghost use Prim.Native.Nat.{_+_, _*_, _≤_, _<_};
 ghost use lib.ListN.{length};
 ghost use lib.Ieee.{binary64, mul};
-ghost use Rattle.root.specs.Constants.{eps0, mu0};
+ghost use Rattle.grid.specs.Vacuum.{epsOf, muOf};
 ghost use Rattle.grid.specs.Stores.{outcome, numberAt};
 ghost use Rattle.root.specs.Rounded.{summed};
 ghost use Rattle.fields.specs.Fields.{squared, cellEnergy, energyAt, energyFault, energyCall, planeFault, planeCall};
@@ -11,8 +11,7 @@ use crate::Reading;
 use grid::Record;
 use grid::fault;
 use grid::stores;
-use root::EPS0;
-use root::MU0;
+use root::vacuum;
 
 pub const NO_SUCH_PLANE: u32 = 17;
 
@@ -22,11 +21,11 @@ fn squared_of(x: f64, y: f64, z: f64) -> f64
     x * x + y * y + z * z
 }
 
-fn cell_energy(dv: f64, eps_r: f64, mu_r: f64, e2: f64, h2: f64) -> f64
+fn cell_energy(eps0: f64, mu0: f64, dv: f64, eps_r: f64, mu_r: f64, e2: f64, h2: f64) -> f64
     ensures { λ r. ⌜ r ≡ cellEnergy eps0 mu0 dv «eps_r» «mu_r» e2 h2 ⌝ }
 {
-    let eps = EPS0 * eps_r;
-    let mu = MU0 * mu_r;
+    let eps = eps0 * eps_r;
+    let mu = mu0 * mu_r;
     (0.5 * eps * e2 + 0.5 * mu * h2) * dv
 }
 
@@ -38,23 +37,32 @@ fn square_at(s: &[f64], n: usize, m: usize) -> f64
     squared_of(s[m], s[n + m], s[2 * n + m])
 }
 
-fn energy_at(e: &[f64], h: &[f64], media: &[f64], n: usize, dv: f64, m: usize) -> f64
+fn energy_at(
+    e: &[f64],
+    h: &[f64],
+    media: &[f64],
+    n: usize,
+    dv: f64,
+    eps0: f64,
+    mu0: f64,
+    m: usize,
+) -> f64
     requires { ⌜ (m < n) × (length (now e) ≡ 3 * n) × (length (now h) ≡ 3 * n) × (length (now media) ≡ 3 * n) ⌝ }
     ensures { λ r. ⌜ r ≡ energyAt eps0 mu0 dv n (now (e .entry)) (now (h .entry)) (now (media .entry)) m ⌝ }
 {
     let e2 = square_at(e, n, m);
     let h2 = square_at(h, n, m);
-    cell_energy(dv, media[m], media[n + m], e2, h2)
+    cell_energy(eps0, mu0, dv, media[m], media[n + m], e2, h2)
 }
 
-fn energy_sum(e: &[f64], h: &[f64], media: &[f64], n: usize, dv: f64) -> f64
+fn energy_sum(e: &[f64], h: &[f64], media: &[f64], n: usize, dv: f64, eps0: f64, mu0: f64) -> f64
     requires { ⌜ (length (now e) ≡ 3 * n) × (length (now h) ≡ 3 * n) × (length (now media) ≡ 3 * n) ⌝ }
     ensures { λ r. ⌜ r ≡ summed n (energyAt eps0 mu0 dv n (now (e .entry)) (now (h .entry)) (now (media .entry))) ⌝ }
 {
     let mut energy = 0.0;
     let mut m = 0;
     while m < n {
-        energy = energy + energy_at(e, h, media, n, dv, m);
+        energy = energy + energy_at(e, h, media, n, dv, eps0, mu0, m);
         m += 1;
     }
     energy
@@ -71,9 +79,9 @@ fn energy_fault(r: Record, e: usize, h: usize, media: usize) -> u32
     )
 }
 
-// The energy of both fields.
+// The energy of both fields, by the record's constants.
 pub fn total_energy(r: Record, e: &[f64], h: &[f64], media: &[f64]) -> Reading
-    ensures { λ o. ⌜ outcome (o .refusal) (o .study) (o .value) ≡ energyCall eps0 mu0 r (now (e .entry)) (now (h .entry)) (now (media .entry)) ⌝ }
+    ensures { λ o. ⌜ outcome (o .refusal) (o .study) (o .value) ≡ energyCall (epsOf r) (muOf r) r (now (e .entry)) (now (h .entry)) (now (media .entry)) ⌝ }
 {
     let f = energy_fault(r, e.len(), h.len(), media.len());
     if f != 0 {
@@ -84,7 +92,8 @@ pub fn total_energy(r: Record, e: &[f64], h: &[f64], media: &[f64]) -> Reading
         };
     }
     let dv = r.spacings.dx * r.spacings.dy * r.spacings.dz;
-    let energy = energy_sum(e, h, media, r.nx * r.ny * r.nz, dv);
+    let v = vacuum::chosen(r.constants);
+    let energy = energy_sum(e, h, media, r.nx * r.ny * r.nz, dv, v.eps0, v.mu0);
     Reading {
         refusal: 0,
         study: r,

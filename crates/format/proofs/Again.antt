@@ -1,18 +1,19 @@
--- Bytes without fault: the study that they say has none either, and writes them again. Assumes nothing.
+-- Bytes without fault: the study that they say has none either, and writes them again; where their GH is an old one, with the constants put in. Assumes
+-- nothing.
 use Prim.Native.Nat.{ℕ, _+_, _*_, _^_, _≤_, _<_}
 use native.Mathlib.Omega.{arith}
 use mathlib.Core.Path.{_≡_, sym, ap, _∙_}
-use mathlib.Core.Bool.{Bool, true, cond}
-use mathlib.Core.List.{List}
+use mathlib.Core.Bool.{Bool, true, false, cond}
+use mathlib.Core.List.{List, _∷_, _++_}
 use borrow.Author.Tests.{eqb-true, lt-ltb}
 use lib.Dec.{T, eqb}
-use lib.ListN.{length, getD, take, drop, length-drop}
+use lib.ListN.{length, getD, take, drop, length-append, length-drop, take-append-drop}
 use lib.Seq.{length-take-le}
 use lib.Ieee.{binary64, ofBits}
 use Rattle.codec.specs.Lists.{part}
-use Rattle.codec.specs.Bytes.{bytesFit, enc, total, floatsBytes, floatsOf, floatsFit, allFine, idsBytes, idsOf}
+use Rattle.codec.specs.Bytes.{bytesFit, enc, total, fitAll, floatsBytes, floatsOf, floatsFit, allFine, idsBytes, idsOf}
 use Rattle.codec.proofs.Lists.{part-take, every-drop}
-use Rattle.codec.proofs.Row.{enc-nums, nums-fit, fit-at, length-nums}
+use Rattle.codec.proofs.Row.{enc-nums, nums-fit, fit-at, length-nums, length-enc}
 use Rattle.codec.proofs.Elements.{length-elementsOf}
 use Rattle.codec.proofs.Back.{floats-bytes, floats-fit, ids-bytes, ids-fit}
 use Rattle.dispersion.specs.declared.DispersiveMaterial.{DispersiveMaterial}
@@ -26,34 +27,39 @@ use Rattle.grid.specs.declared.stores.Lengths.{Lengths}
 use Rattle.grid.specs.Canon.{canon}
 use Rattle.grid.specs.Fault.{beyond, allBelow, faultOf}
 use Rattle.grid.specs.Stores.{storeLengths, lengthsOf}
-use Rattle.grid.proofs.Tests.{and-left, and-right}
+use Rattle.grid.proofs.Tests.{and-left, and-right, or-none}
 use Rattle.grid.proofs.Judging.{sound}
-use Rattle.heads.specs.Numbers.{ghWidths, ghLength, ghFine, ghOf, mlWidths, mlLength, mlFine, mlOf}
-use Rattle.heads.specs.Payloads.{headBytes, materialBytes, headOf, countOf, entryAt, entryMaterial, materialsOf, recordOf}
+use Rattle.heads.specs.Numbers.{ghWidths, ghLength, ghNums, ghFine, ghOf, mlWidths, mlLength, mlFine, mlOf}
+use Rattle.heads.specs.Payloads.{materialBytes, headBy, countOf, entryAt, entryMaterial, materialsOf, recordOf}
 use Rattle.heads.proofs.Whole.{gh-total, ml-total}
 use Rattle.block.specs.Inner.Held.{Held}
 use Rattle.block.proofs.Head.{all-at}
 use Rattle.block.proofs.Again.{material-again, head-again}
 use Rattle.block.proofs.Decoded.{record-held as entries-held}
-use Rattle.format.specs.Records.{frames, Expected, expected, payloadFrom}
-use Rattle.format.specs.Save.{eleven, listBytes, pieces, saveBytes}
-use Rattle.format.specs.Rewind.{saveHead, bare, headGood, listGood, table, tableOf, bytesFault, payloadOf, readRecord, readStores}
+use Rattle.format.specs.Records.{piece, framed, frames, Expected, expected, recordFault, recordsFault, payloadFrom}
+use Rattle.format.specs.Save.{markGH, eleven, listBytes, pieces, saveBytes, saveLength}
+use Rattle.format.specs.Rewind.{isOld, headSize, saveHead, bare, headGood, listGood, headRecord, listRecord, storeRecords, table, tableBy, tableOf, bytesFault, payloadOf, readRecord, readStores}
 use Rattle.format.specs.InMemory.{StoresHeld}
-use Rattle.format.proofs.Walk.{cutUp, Passed, walk-back, walk-passed}
+use Rattle.format.proofs.Walk.{cutUp, Passed, walk-back, walk-passed, length-framed}
 use Rattle.format.proofs.Bare.{bare-lengths}
-use Rattle.format.proofs.Back.{record-again}
+use Rattle.format.proofs.Old.{size-least, long-by, fit-by, enc-new}
+use Rattle.format.proofs.Written.{list-back, save-long}
 
 eleven-same : (a b c d e f g h i j k a' b' c' d' e' f' g' h' i' j' k' : List ℕ) →
     a ≡ a' → b ≡ b' → c ≡ c' → d ≡ d' → e ≡ e' → f ≡ f' → g ≡ g' → h ≡ h' → i ≡ i' → j ≡ j' → k ≡ k' →
     eleven a b c d e f g h i j k ≡ eleven a' b' c' d' e' f' g' h' i' j' k'
 eleven-same a b c d e f g h i j k a' b' c' d' e' f' g' h' i' j' k' p q r s t u v w x y z = rw (p, q, r, s, t, u, v, w, x, y, z)
 
+-- GH as its study writes it, and the other records as they stand
+unfoldable pub rewritten : List ℕ → List ℕ
+rewritten b = framed (piece markGH (enc ghWidths (saveHead b))) ++ drop (6 + headSize b) b
+
 module _ (b : List ℕ) (bytes : T (bytesFit b)) (ok : bytesFault b ≡ 0) where
   abbrev g : List ℕ
   g = saveHead b
 
   abbrev es : List Expected
-  es = tableOf g
+  es = tableOf b
 
   abbrev n : Lengths
   n = storeLengths (bare g)
@@ -68,34 +74,31 @@ module _ (b : List ℕ) (bytes : T (bytesFit b)) (ok : bytesFault b ≡ 0) where
   count = countOf g
 
   passed : (i : ℕ) → i < 11 → Passed (getD es i none) (payloadOf b i)
-  unfolding bytesFault tableOf table
+  unfolding bytesFault tableBy table
   passed i l = walk-passed es b i none bytes ok l
 
   -- ---- GH
-  head-passed : Passed (expected 0 ghLength (λ p. headGood (headOf p))) (drop 6 b)
-  unfolding tableOf table payloadFrom
+  head-passed : Passed (expected 0 (headSize b) (λ p. headGood (headBy (isOld b) p))) (drop 6 b)
+  unfolding tableBy table payloadFrom
   head-passed = let q = passed 0 (omega arith) in record { room = q .room; good = q .good; bytes = q .bytes }
 
   head-fine : ghFine g ≡ true
   unfolding headGood
   head-fine = and-left (ghFine g) (eqb (faultOf (bare g)) 0) (head-passed .good)
 
-  head-fit : total ghWidths ≤ length (drop 6 b)
-  head-fit = omega (arith, gh-total, head-passed .room)
+  head-fit : T (fitAll ghWidths g)
+  head-fit = fit-by (isOld b) (drop 6 b) (head-passed .room) (head-passed .bytes)
 
-  head-bytes : headBytes r ≡ take ghLength (drop 6 b)
+  pub head-nums : ghNums (readRecord b) ≡ saveHead b
   unfolding readRecord
-  head-bytes =
-      ap (enc ghWidths) (head-again g (materialsOf count (payloadOf b 1)) (length-nums ghWidths (drop 6 b)) (nums-fit ghWidths (drop 6 b) head-fit (head-passed .bytes)) head-fine)
-      ∙ enc-nums ghWidths (drop 6 b) head-fit (head-passed .bytes)
-      ∙ ap (λ (k : ℕ). take k (drop 6 b)) gh-total
+  head-nums = head-again g (materialsOf count (payloadOf b 1)) (long-by (isOld b) (drop 6 b)) head-fit head-fine
 
   -- ---- ML
   abbrev p : List ℕ
   p = payloadOf b 1
 
   list-passed : Passed (expected 0 (mlLength * count) (listGood g)) p
-  unfolding tableOf table
+  unfolding tableBy table
   list-passed = let q = passed 1 (omega arith) in record { room = q .room; good = q .good; bytes = q .bytes }
 
   abbrev each : Bool
@@ -153,11 +156,14 @@ module _ (b : List ℕ) (bytes : T (bytesFit b)) (ok : bytesFault b ≡ 0) where
   ids-again : (m k : ℕ) (l : List ℕ) → Passed (expected m (4 * k) (λ _. true)) l → idsBytes (idsOf k l) ≡ take (4 * k) l
   ids-again m k l q = ids-bytes k l (q .room) (q .bytes)
 
-  -- the bytes cut up are the records of the study that they say
-  as-read : pieces r (readStores b) ≡ cutUp es b
-  unfolding pieces readStores cutUp tableOf table payloadFrom
+  abbrev later : List Expected
+  later = listRecord g ∷ storeRecords n
+
+  -- the bytes cut up are the records of the study that they say, but for GH
+  pub as-read : pieces (readRecord b) (readStores b) ≡ piece markGH (enc ghWidths g) ∷ cutUp later (drop (6 + headSize b) b)
+  unfolding pieces readStores cutUp tableBy table payloadFrom
   as-read =
-      eleven-same _ _ _ _ _ _ _ _ _ _ _ _ _ _ _ _ _ _ _ _ _ _ head-bytes list-bytes
+      eleven-same _ _ _ _ _ _ _ _ _ _ _ _ _ _ _ _ _ _ _ _ _ _ (ap (enc ghWidths) head-nums) list-bytes
       (ids-again _ (n .ids) _ (passed 2 (omega arith)))
       (again _ (n .media) _ (passed 3 (omega arith)))
       (again _ (n .electric) _ (passed 4 (omega arith)))
@@ -168,9 +174,20 @@ module _ (b : List ℕ) (bytes : T (bytesFit b)) (ok : bytesFault b ≡ 0) where
       (again _ (n .poles) _ (passed 9 (omega arith)))
       (again _ (n .aux) _ (passed 10 (omega arith)))
 
-  pub bytes-again : saveBytes (readRecord b) (readStores b) ≡ b
-  unfolding saveBytes bytesFault
-  bytes-again = ap frames as-read ∙ walk-back es b bytes ok
+  pub bytes-rewritten : saveBytes (readRecord b) (readStores b) ≡ rewritten b
+  unfolding saveBytes frames rewritten bytesFault tableBy table recordsFault
+  bytes-rewritten =
+      let f = or-none (recordFault (headRecord (isOld b)) b) _ ok .1 in
+      ap frames as-read
+      ∙ ap (λ (x : List ℕ). framed (piece markGH (enc ghWidths g)) ++ x) (walk-back later (drop (6 + headSize b) b) (every-drop _ (6 + headSize b) b bytes) f)
+
+  -- and GH too, unless it is an old one
+  pub bytes-again : isOld b ≡ false → saveBytes (readRecord b) (readStores b) ≡ b
+  unfolding saveBytes bytesFault cutUp tableBy table
+  bytes-again new =
+      ap frames as-read
+      ∙ ap (λ (x : List ℕ). frames (piece markGH x ∷ cutUp later (drop (6 + headSize b) b))) (enc-new (isOld b) (drop 6 b) new (head-passed .room) (head-passed .bytes))
+      ∙ walk-back es b bytes ok
 
   -- ---- what is read is a study: stores of its lengths, and all that code holds
   pub read-lengths : lengthsOf (readStores b) ≡ storeLengths (readRecord b)
@@ -207,11 +224,20 @@ module _ (b : List ℕ) (bytes : T (bytesFit b)) (ok : bytesFault b ≡ 0) where
             length-elementsOf 4 (λ k. k) i (payloadOf b 2),
           )
 
+  -- how long they are: as a save of that study, but for GH
+  pub read-long : length b + ghLength ≡ saveLength (readRecord b) + headSize b
+  unfolding rewritten
+  read-long =
+      let h : List ℕ = enc ghWidths g in
+      let wide : length h ≡ ghLength = length-enc ghWidths g (sym (long-by (isOld b) (drop 6 b))) ∙ gh-total in
+      let whole : length (framed (piece markGH h) ++ drop (6 + headSize b) b) ≡ saveLength r = ap length (sym bytes-rewritten) ∙ save-long r (readStores b) read-lengths in
+      omega (arith, wide, whole, length-append (framed (piece markGH h)) (drop (6 + headSize b) b), length-framed (piece markGH h), length-drop (6 + headSize b) b, head-passed .room, length-drop 6 b, size-least (isOld b))
+
   held : (m k : ℕ) (l : List ℕ) → Passed (expected m (8 * k) (allFine k)) l → T (floatsFit (floatsOf k l))
   held m k l q = floats-fit k l (q .room) (q .bytes)
 
   pub stores-held : StoresHeld (readStores b)
-  unfolding readStores tableOf table
+  unfolding readStores tableBy table
   stores-held = record {
     electric = held _ (n .electric) _ (passed 4 (omega arith));
     magnetic = held _ (n .magnetic) _ (passed 5 (omega arith));
@@ -226,7 +252,7 @@ module _ (b : List ℕ) (bytes : T (bytesFit b)) (ok : bytesFault b ≡ 0) where
 
   steps-small : getD g 25 0 ≤ 4294967295
   steps-small =
-      let small : getD g 25 0 < 256 ^ 4 = fit-at ghWidths g 25 (nums-fit ghWidths (drop 6 b) head-fit (head-passed .bytes)) (omega arith) in
+      let small : getD g 25 0 < 256 ^ 4 = fit-at ghWidths g 25 head-fit (omega arith) in
       omega arith
 
   pub record-held : Held (readRecord b)
@@ -235,4 +261,10 @@ module _ (b : List ℕ) (bytes : T (bytesFit b)) (ok : bytesFault b ≡ 0) where
 
   -- and nothing in its record means nothing
   pub read-canon : canon (readRecord b) ≡ readRecord b
-  read-canon = sym (record-again r (readStores b) read-none record-held read-lengths stores-held) ∙ ap readRecord bytes-again
+  unfolding readRecord
+  read-canon =
+      let rest : List ℕ = drop (mlLength * count) p in
+      sym (list-back r read-none record-held rest)
+      ∙ ap (λ (x : List ℕ). recordOf x (listBytes r ++ rest)) head-nums
+      ∙ ap (λ (x : List ℕ). recordOf g (x ++ rest)) list-bytes
+      ∙ ap (recordOf g) (take-append-drop (mlLength * count) p)

@@ -1,16 +1,16 @@
--- A study without fault, saved: its save has no fault and says the study again; cut short anywhere it is 13, with more behind it 16. Assumes nothing.
-use Prim.Native.Nat.{ℕ, suc, _+_, _-_, _≤_, _<_}
+-- A study without fault, saved: its save has no fault and says the study again. Assumes nothing.
+use Prim.Native.Nat.{ℕ, suc, _+_, _-_, _<_}
 use native.Mathlib.Omega.{arith}
 use mathlib.Core.Path.{_≡_, refl, sym, ap, _∙_, subst}
 use mathlib.Core.Bool.{Bool, true, false}
-use mathlib.Core.List.{List, [], _∷_, _++_, append-nil}
-use borrow.Author.Tests.{eq-eqb, ne-eqb, ltb-true, ltb-false}
-use lib.Dec.{T, eqb, ltb}
-use lib.ListN.{length, getD, take, drop}
+use mathlib.Core.List.{List, [], _++_, append-assoc, append-nil}
+use borrow.Author.Tests.{eq-eqb}
+use lib.Dec.{T, eqb}
+use lib.ListN.{length, getD, drop}
 use lib.Ieee.{Float}
-use Rattle.codec.specs.Bytes.{floatsBytes, floatsOf, floatsFit, idsBytes, idsOf}
-use Rattle.codec.specs.Frame.{frameFault, short}
-use Rattle.codec.proofs.Framed.{frame-cut}
+use Rattle.codec.specs.Lists.{part}
+use Rattle.codec.specs.Bytes.{unle, floatsBytes, floatsOf, floatsFit, idsBytes, idsOf}
+use Rattle.codec.specs.Frame.{frameFault}
 use Rattle.codec.proofs.Back.{floats-back, ids-back}
 use Rattle.grid.specs.declared.Record.{Record}
 use Rattle.grid.specs.declared.stores.Lengths.{Lengths}
@@ -18,15 +18,16 @@ use Rattle.grid.specs.Canon.{canon}
 use Rattle.grid.specs.Fault.{first, faultOf}
 use Rattle.grid.specs.Stores.{Stores, stores, storeLengths, lengthsOf, sameLengths, badStore, lentFault}
 use Rattle.heads.specs.Numbers.{ghLength, ghNums}
-use Rattle.heads.specs.Payloads.{headBytes, headOf, recordOf}
+use Rattle.heads.specs.Payloads.{headBytes, headOf, headBy, recordOf}
 use Rattle.block.specs.Inner.Held.{Held}
-use Rattle.format.specs.Records.{Piece, piece, framed, frames, trailing, Expected, recordFault, recordsFault, payloadFrom}
-use Rattle.format.specs.Save.{markGH, listBytes, pieces, saveBytes, saveLength}
-use Rattle.format.specs.Rewind.{saveHead, bare, headRecord, table, tableOf, bytesFault, payloadOf, readRecord, readStores, rewindFault}
+use Rattle.format.specs.Records.{Piece, piece, framed, frames, trailing, Expected, recordsFault, payloadFrom}
+use Rattle.format.specs.Save.{markGH, listBytes, pieces, saveBytes}
+use Rattle.format.specs.Rewind.{isOld, saveHead, bare, headRecord, table, tableBy, bytesFault, payloadOf, readRecord, readStores, rewindFault}
 use Rattle.format.specs.InMemory.{StoresHeld}
-use Rattle.format.proofs.Walk.{Meets, AllMeet, met-frame, met-payload, met-past, walk-met, walk-cut, walk-from}
+use Rattle.format.proofs.Walk.{Meets, AllMeet, met-frame, walk-met, walk-from}
 use Rattle.format.proofs.Bare.{own-lengths}
-use Rattle.format.proofs.Written.{save-long, head-nums, list-back, table-met, own-table}
+use Rattle.format.proofs.Old.{frame-says, is-new}
+use Rattle.format.proofs.Written.{head-nums, list-back, table-met, own-table}
 
 pub same-self : (l : Lengths) → sameLengths l l ≡ true
 unfolding sameLengths
@@ -57,7 +58,7 @@ module _ (r : Record) (s : Stores) (ok : faultOf r ≡ 0) (h : Held r) (fit : le
   g = ghNums r
 
   abbrev es : List Expected
-  es = tableOf g
+  es = tableBy false g
 
   abbrev ps : List Piece
   ps = pieces r s
@@ -68,9 +69,38 @@ module _ (r : Record) (s : Stores) (ok : faultOf r ≡ 0) (h : Held r) (fit : le
   met : AllMeet es ps
   met = subst (λ (t : List Expected). AllMeet t ps) (sym (own-table r s ok h fit k)) (table-met r s ok h fit k)
 
+  first-met : Meets (headRecord false) (piece markGH (headBytes r))
+  unfolding table pieces AllMeet
+  first-met = table-met r s ok h fit k .0
+
+  abbrev later : List ℕ
+  later = frames (drop 1 ps)
+
+  -- the save as its GH and what follows
+  as-first : saveBytes r s ≡ framed (piece markGH (headBytes r)) ++ later
+  unfolding saveBytes frames pieces
+  as-first = refl
+
+  -- its GH is a new one
+  module _ (rest : List ℕ) where
+    first-frame : frameFault markGH ghLength (saveBytes r s ++ rest) ≡ 0
+    first-frame =
+        ap (λ (x : List ℕ). frameFault markGH ghLength (x ++ rest)) as-first
+        ∙ ap (frameFault markGH ghLength) (append-assoc (framed (piece markGH (headBytes r))) later rest)
+        ∙ met-frame (headRecord false) _ first-met (later ++ rest)
+
+    pub saved-size : unle (part (saveBytes r s ++ rest) 2 4) ≡ ghLength
+    saved-size = frame-says markGH ghLength (saveBytes r s ++ rest) first-frame
+
+    pub saved-new : isOld (saveBytes r s ++ rest) ≡ false
+    saved-new = is-new (saveBytes r s ++ rest) saved-size
+
   module _ (rest : List ℕ) where
     abbrev b : List ℕ
     b = saveBytes r s ++ rest
+
+    abbrev new : isOld (saveBytes r s ++ rest) ≡ false
+    new = saved-new rest
 
     -- the bytes from record i's payload on
     abbrev after : ℕ → List ℕ
@@ -81,16 +111,22 @@ module _ (r : Record) (s : Stores) (ok : faultOf r ≡ 0) (h : Held r) (fit : le
     from i l = walk-from es ps i none rest met l
 
     head-is : saveHead b ≡ g
-    unfolding tableOf table payloadFrom pieces
-    head-is = ap headOf (from 0 (omega arith)) ∙ head-nums r ok h (after 0)
+    unfolding tableBy table payloadFrom pieces
+    head-is = ap (λ (o : Bool). headBy o (drop 6 b)) new ∙ ap headOf (from 0 (omega arith)) ∙ head-nums r ok h (after 0)
 
     -- the bytes of a study and what follows: 16 unless nothing does
     pub saved-fault : bytesFault b ≡ first (eqb (length rest) 0) trailing 0
     unfolding bytesFault saveBytes
-    saved-fault = ap (λ (n : List ℕ). recordsFault (tableOf n) b) head-is ∙ walk-met es ps rest met
+    saved-fault =
+        ap (λ (o : Bool). recordsFault (tableBy o (saveHead b)) b) new
+        ∙ ap (λ (n : List ℕ). recordsFault (tableBy false n) b) head-is
+        ∙ walk-met es ps rest met
 
     payload-is : (i : ℕ) → i < 11 → payloadOf b i ≡ getD ps i none .payload ++ after i
-    payload-is i l = ap (λ (n : List ℕ). payloadFrom (tableOf n) i b) head-is ∙ from i l
+    payload-is i l =
+        ap (λ (o : Bool). payloadFrom (tableBy o (saveHead b)) i b) new
+        ∙ ap (λ (n : List ℕ). payloadFrom (tableBy false n) i b) head-is
+        ∙ from i l
 
     list-is : payloadOf b 1 ≡ listBytes r ++ after 1
     unfolding pieces
@@ -144,54 +180,3 @@ module _ (r : Record) (s : Stores) (ok : faultOf r ≡ 0) (h : Held r) (fit : le
 
   pub stores-again : readStores (saveBytes r s) ≡ s
   stores-again = ap readStores (sym (append-nil (saveBytes r s))) ∙ saved-stores []
-
-  -- ---- (c) cut short anywhere, it is refused as Short
-  first-met : Meets headRecord (piece markGH (headBytes r))
-  unfolding table pieces AllMeet
-  first-met = table-met r s ok h fit k .0
-
-  abbrev later : List ℕ
-  later = frames (drop 1 ps)
-
-  -- the save as its GH and what follows
-  as-first : saveBytes r s ≡ framed (piece markGH (headBytes r)) ++ later
-  unfolding saveBytes frames pieces
-  as-first = refl
-
-  -- within GH
-  cut-early : (n : ℕ) → n < 6 + ghLength → bytesFault (take n (saveBytes r s)) ≡ short
-  unfolding bytesFault tableOf table recordsFault recordFault
-  cut-early n l =
-      let f : frameFault markGH ghLength (saveBytes r s) ≡ 0 = ap (frameFault markGH ghLength) as-first ∙ met-frame headRecord _ first-met later in
-      rw (frame-cut markGH ghLength (saveBytes r s) f n l)
-
-  -- after it
-  head-kept : (n : ℕ) → 6 + ghLength ≤ n → saveHead (take n (saveBytes r s)) ≡ g
-  head-kept n l =
-      ap (λ (x : List ℕ). saveHead (take n x)) as-first
-      ∙ ap saveHead (met-past headRecord _ first-met later n l)
-      ∙ ap headOf (met-payload headRecord _ first-met (take (n - (6 + ghLength)) later))
-      ∙ head-nums r ok h (take (n - (6 + ghLength)) later)
-
-  cut-late : (n : ℕ) → 6 + ghLength ≤ n → n < length (saveBytes r s) → bytesFault (take n (saveBytes r s)) ≡ short
-  unfolding bytesFault saveBytes
-  cut-late n l m = ap (λ (x : List ℕ). recordsFault (tableOf x) (take n (saveBytes r s))) (head-kept n l) ∙ walk-cut es ps n met m
-
-  cut-any : (n : ℕ) → n < length (saveBytes r s) → bytesFault (take n (saveBytes r s)) ≡ short
-  cut-any n m = go (ltb n (6 + ghLength)) refl
-    where
-      go : (t : Bool) → ltb n (6 + ghLength) ≡ t → bytesFault (take n (saveBytes r s)) ≡ short
-      go true e = cut-early n (ltb-true n (6 + ghLength) e)
-      go false e = cut-late n (ltb-false n (6 + ghLength) e) m
-
-  pub save-cut : (n : ℕ) (l : Lengths) → n < saveLength r → rewindFault (take n (saveBytes r s)) l ≡ short
-  unfolding rewindFault
-  save-cut n l m =
-      ap (λ (f : ℕ). lentFault f (sameLengths l (storeLengths (readRecord (take n (saveBytes r s)))))) (cut-any n (omega (arith, save-long r s fit, m)))
-
-  -- ---- (d) with more behind it, it is refused as Trailing
-  pub save-trailing : (x : ℕ) (rest : List ℕ) (l : Lengths) → rewindFault (saveBytes r s ++ (x ∷ rest)) l ≡ trailing
-  unfolding rewindFault
-  save-trailing x rest l =
-      ap (λ (n : ℕ). lentFault n (sameLengths l (storeLengths (readRecord (saveBytes r s ++ (x ∷ rest))))))
-      (saved-fault (x ∷ rest) ∙ ap (λ (t : Bool). first t trailing 0) (ne-eqb (suc (length rest)) 0 (λ e. let z : ⊥ = omega arith in z)))

@@ -12,7 +12,7 @@ use Rattle.dispersion.specs.Material.{vacuumMaterial}
 use Rattle.grid.specs.declared.Record.{Record}
 use Rattle.grid.specs.Edited.{withMaterials}
 use Rattle.grid.specs.Stores.{storeLengths}
-use Rattle.grid.specs.Fault.{beyond, poleCount, sizeFits, spacingsFit, countsFit, polesFit, layerFits, regionFits, studyFits, faultOf}
+use Rattle.grid.specs.Fault.{beyond, poleCount, sizeFits, spacingsFit, openedFit, countsFit, polesFit, layerFits, regionFits, studyFits, faultOf}
 use Rattle.grid.proofs.Tests.{and-left, and-right, first-none}
 use Rattle.heads.specs.Numbers.{ghNums, ghOf}
 use Rattle.block.proofs.Head.{all-true}
@@ -30,7 +30,7 @@ module _ (r : Record) where
   bare-counts : countsFit r ≡ true → countsFit b ≡ true
   unfolding countsFit
   bare-counts e =
-      let four = leb (r .«pole_slots») 4 && leb 1 (r .«material_count») && leb (r .«material_count») 16 && leb (r .«built_count») (r .«material_count») in
+      let four = openedFit r && leb 1 (r .«material_count») && leb (r .«material_count») 16 && leb (r .«built_count») (r .«material_count») in
       ap (λ (t : Bool). t && eqb (poleCount b 0) 0) (and-left four (eqb (poleCount r 0) 0) e) ∙ eq-eqb (poleCount b 0) 0 (no-poles 16 0)
 
   bare-poles : polesFit b ≡ true

@@ -1,6 +1,7 @@
 -- Saves of one study are the same bytes, and one save is one study's. Assumes nothing.
 use Prim.Native.Nat.{ℕ, zero, suc}
 use mathlib.Core.Path.{_≡_, sym, ap, _∙_}
+use mathlib.Core.Bool.{false}
 use mathlib.Core.List.{List, [], _∷_, append-nil}
 use lib.Dec.{T}
 use lib.ListN.{length}
@@ -20,9 +21,9 @@ use Rattle.heads.specs.Numbers.{ghWidths, ghNums, mlWidths}
 use Rattle.block.specs.Inner.Held.{Held}
 use Rattle.format.specs.Records.{Piece, framed, frames}
 use Rattle.format.specs.Save.{listBytes, pieces, saveBytes}
-use Rattle.format.specs.Rewind.{bytesFault, readRecord, readStores}
+use Rattle.format.specs.Rewind.{isOld, bytesFault, readRecord, readStores}
 use Rattle.format.specs.InMemory.{StoresHeld}
-use Rattle.format.proofs.Back.{saved-fault, record-again, stores-again}
+use Rattle.format.proofs.Back.{saved-fault, saved-new, record-again, stores-again}
 use Rattle.format.proofs.Again.{bytes-again}
 
 -- ---- what is written are bytes
@@ -56,12 +57,15 @@ module _ (r : Record) (s : Stores) (ok : faultOf r ≡ 0) (h : Held r) (fit : le
   none : bytesFault (saveBytes r s) ≡ 0
   none = ap bytesFault (sym (append-nil (saveBytes r s))) ∙ saved-fault r s ok h fit k []
 
+  new : isOld (saveBytes r s) ≡ false
+  new = ap isOld (sym (append-nil (saveBytes r s))) ∙ saved-new r s ok h fit k []
+
   -- what means nothing leaves no trace in a save
   pub canon-saves : saveBytes (canon r) s ≡ saveBytes r s
   canon-saves =
       ap (λ (q : Record). saveBytes q s) (sym (record-again r s ok h fit k))
       ∙ ap (saveBytes (readRecord (saveBytes r s))) (sym (stores-again r s ok h fit k))
-      ∙ bytes-again (saveBytes r s) (save-fit r s) none
+      ∙ bytes-again (saveBytes r s) (save-fit r s) none new
 
   -- two studies with the same save are one study
   pub save-names : (r' : Record) (s' : Stores) → faultOf r' ≡ 0 → Held r' → lengthsOf s' ≡ storeLengths r' → StoresHeld s' → saveBytes r s ≡ saveBytes r' s' → (canon r ≡ canon r') × (s ≡ s')

@@ -3,7 +3,7 @@ use Prim.Native.Nat.{ℕ, _+_, _*_, _^_, _≤_, _<_}
 use native.Mathlib.Nat.{add-mul, mul-assoc}
 use native.Mathlib.Omega.{arith}
 use mathlib.Core.Path.{_≡_, refl, sym, ap, _∙_}
-use mathlib.Core.Bool.{true, _&&_}
+use mathlib.Core.Bool.{true, false, _&&_}
 use mathlib.Core.List.{List, [], _∷_, _++_, map}
 use borrow.Author.Tests.{eq-eqb}
 use lib.Dec.{T, eqb}
@@ -35,7 +35,7 @@ use Rattle.block.proofs.Head.{all-true, head-fit, head-fine, head-back}
 use Rattle.block.proofs.Counted.{entry-is, record-back}
 use Rattle.format.specs.Records.{Piece, piece, framed, frames}
 use Rattle.format.specs.Save.{listBytes, pieces, saveBytes, saveLength}
-use Rattle.format.specs.Rewind.{bare, headGood, listGood, floatsRecord, table, tableOf}
+use Rattle.format.specs.Rewind.{bare, headGood, listGood, floatsRecord, table, tableBy}
 use Rattle.format.specs.InMemory.{StoresHeld}
 use Rattle.format.proofs.Walk.{Meets, AllMeet, meet-nil, meet-cons, length-framed}
 use Rattle.format.proofs.Bare.{bare-none, own-lengths}
@@ -171,7 +171,7 @@ module _ (r : Record) (s : Stores) (ok : faultOf r ≡ 0) (h : Held r) (fit : le
   sized : Sound r
   sized = sound r ok
 
-  pub table-met : AllMeet (table (ghNums r) (lengthsOf s)) (pieces r s)
+  pub table-met : AllMeet (table false (ghNums r) (lengthsOf s)) (pieces r s)
   unfolding table pieces storeLengths
   table-met =
       let e1 : length (s .electric) ≡ 3 * cells r = ap (λ (l : Lengths). l .electric) fit in
@@ -203,6 +203,6 @@ module _ (r : Record) (s : Stores) (ok : faultOf r ≡ 0) (h : Held r) (fit : le
       meet-nil))))))))))
 
   -- GH of a study makes the study's own records expected
-  pub own-table : tableOf (ghNums r) ≡ table (ghNums r) (lengthsOf s)
-  unfolding tableOf
-  own-table = ap (table (ghNums r)) (own-lengths r ∙ sym fit)
+  pub own-table : tableBy false (ghNums r) ≡ table false (ghNums r) (lengthsOf s)
+  unfolding tableBy
+  own-table = ap (table false (ghNums r)) (own-lengths r ∙ sym fit)

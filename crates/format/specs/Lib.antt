@@ -2,5 +2,6 @@
 pub mod Records
 pub mod Save
 pub mod Rewind
+pub mod ReadBack
 pub mod InMemory
 pub mod Inner

@@ -1,23 +1,35 @@
 -- A save judged and read (document 01, "Rewind, record by record"). Definitions only.
 use Prim.Native.Nat.{ℕ, _*_}
-use mathlib.Core.Bool.{Bool, true, _&&_}
+use mathlib.Core.Bool.{Bool, true, cond, _&&_}
 use mathlib.Core.List.{List, [], _∷_}
-use lib.Dec.{eqb}
-use lib.ListN.{drop, replicate}
-use Rattle.codec.specs.Bytes.{floatsOf, allFine, idsOf}
+use lib.Dec.{leb, eqb}
+use lib.ListN.{length, drop, replicate}
+use Rattle.codec.specs.Lists.{part}
+use Rattle.codec.specs.Bytes.{unle, floatsOf, allFine, idsOf}
 use Rattle.dispersion.specs.Material.{vacuumMaterial}
 use Rattle.grid.specs.declared.Record.{Record}
 use Rattle.grid.specs.declared.stores.Lengths.{Lengths}
 use Rattle.grid.specs.Fault.{allBelow, faultOf}
 use Rattle.grid.specs.Stores.{Stores, Outcome, storeLengths, lengthsOf, sameLengths, lentFault, settle}
-use Rattle.heads.specs.Numbers.{ghLength, ghFine, ghOf, mlLength, mlFine}
-use Rattle.heads.specs.Payloads.{headOf, countOf, entryAt, recordOf}
+use Rattle.heads.specs.Numbers.{oldLength, ghLength, ghFine, ghOf, mlLength, mlFine}
+use Rattle.heads.specs.Payloads.{headBy, countOf, entryAt, recordOf}
 use Rattle.format.specs.Records.{Expected, expected, recordsFault, payloadFrom}
 use Rattle.format.specs.Save.{markGH, markML, markCI, markCM, markFE, markFH, markLE, markLH, markLT, markPP, markAX}
 
--- ---- GH's numbers: its payload stands behind the six bytes of its frame
+-- ---- a save from before document 02's S-7: the length field of its first record, GH, says 73
+unfoldable pub isOld : List ℕ → Bool
+isOld b = leb 6 (length b) && eqb (unle (part b 2 4)) oldLength
+
+abbrev pub sizeBy : (old : Bool) → ℕ
+sizeBy old = cond old oldLength ghLength
+
+-- the bytes of GH's payload: 73 in such a save, 74 in any other
+abbrev pub headSize : List ℕ → ℕ
+headSize b = sizeBy (isOld b)
+
+-- ---- GH's numbers: its payload stands behind the six bytes of its frame. An old one says the constants 0
 abbrev pub saveHead : List ℕ → List ℕ
-saveHead b = headOf (drop 6 b)
+saveHead b = headBy (isOld b) (drop 6 b)
 
 -- the record that GH alone says: each material vacuum
 unfoldable pub bare : List ℕ → Record
@@ -32,8 +44,8 @@ unfoldable pub listGood : List ℕ → List ℕ → Bool
 listGood g p = allBelow (λ i. mlFine (entryAt p i)) (countOf g) && eqb (faultOf (recordOf g p)) 0
 
 -- ---- the eleven records to come: a store's length is the one that GH's sizes give it, and ids may be any u32
-abbrev pub headRecord : Expected
-headRecord = expected markGH ghLength (λ p. headGood (headOf p))
+abbrev pub headRecord : (old : Bool) → Expected
+headRecord old = expected markGH (sizeBy old) (λ p. headGood (headBy old p))
 
 abbrev pub listRecord : List ℕ → Expected
 listRecord g = expected markML (mlLength * countOf g) (listGood g)
@@ -57,19 +69,23 @@ storeRecords n =
     ∷ floatsRecord markAX (n .aux)
     ∷ []
 
-unfoldable pub table : List ℕ → Lengths → List Expected
-table g n = headRecord ∷ listRecord g ∷ storeRecords n
+unfoldable pub table : (old : Bool) → List ℕ → Lengths → List Expected
+table old g n = headRecord old ∷ listRecord g ∷ storeRecords n
 
-unfoldable pub tableOf : List ℕ → List Expected
-tableOf g = table g (storeLengths (bare g))
+unfoldable pub tableBy : (old : Bool) → (head : List ℕ) → List Expected
+tableBy old g = table old g (storeLengths (bare g))
+
+-- those that bytes begin to say
+abbrev pub tableOf : List ℕ → List Expected
+tableOf b = tableBy (isOld b) (saveHead b)
 
 -- ---- the first fault of bytes by themselves: 13 to 16
 unfoldable pub bytesFault : List ℕ → ℕ
-bytesFault b = recordsFault (tableOf (saveHead b)) b
+bytesFault b = recordsFault (tableOf b) b
 
 -- ---- the study that bytes say; those from the payload of record i on
 abbrev pub payloadOf : List ℕ → ℕ → List ℕ
-payloadOf b i = payloadFrom (tableOf (saveHead b)) i b
+payloadOf b i = payloadFrom (tableOf b) i b
 
 unfoldable pub readRecord : List ℕ → Record
 readRecord b = recordOf (saveHead b) (payloadOf b 1)

@@ -68,10 +68,10 @@ pieces r s =
 unfoldable pub saveBytes : Record → Stores → List ℕ
 saveBytes r s = frames (pieces r s)
 
--- 907 + 125M + 196N + 48PN + 48L + 16nz
+-- 908 + 125M + 196N + 48PN + 48L + 16nz
 unfoldable pub saveLength : Record → ℕ
 saveLength r =
-    907 + 125 * r .«material_count» + 196 * cells r + 48 * (r .«pole_slots» * cells r) + 48 * (r .nx + r .ny + r .nz) + 16 * r .nz
+    908 + 125 * r .«material_count» + 196 * cells r + 48 * (r .«pole_slots» * cells r) + 48 * (r .nx + r .ny + r .nz) + 16 * r .nz
 
 -- the length asked for: the first three faults, no store being lent
 unfoldable pub lengthCall : Record → Outcome ℕ

@@ -15,7 +15,7 @@ use Rattle.grid.specs.declared.RegionKind.the-variants.{Absent, SlabZ, I
 use Rattle.grid.specs.declared.Region.{Region}
 use Rattle.grid.specs.declared.Record.{Record}
 use Rattle.grid.specs.Canon.{keepFirst, canonMaterial, regionBy, canonRegion, canon}
-use Rattle.grid.specs.Fault.{beyond, poleCount, allBelow, countsFit, polesFit, regionFits, studyFits, faultOf}
+use Rattle.grid.specs.Fault.{beyond, poleCount, allBelow, openedFit, countsFit, polesFit, regionFits, studyFits, faultOf}
 
 -- ---- twice
 keep-twice : {A : Type 0} (n : ℕ) (d : A) (l : List A) → keepFirst n d (keepFirst n d l) ≡ keepFirst n d l
@@ -76,7 +76,7 @@ poles-same r =
 counts-by : (low : Bool) (r : Record) → leb 1 (r .«material_count») ≡ low → countsFit (canon r) ≡ countsFit r
 unfolding countsFit canon
 counts-by true r e = rw (count-kept r 0 (leb-true 1 (r .«material_count») e))
-counts-by false r e = rw (e, and-false (leb (r .«pole_slots») 4))
+counts-by false r e = rw (e, and-false (openedFit r))
 
 region-same-by : (k : RegionKind) (r : Region) (nx ny nz : ℕ) → r .kind ≡ k → regionFits (regionBy k r) nx ny nz ≡ regionFits r nx ny nz
 unfolding regionFits

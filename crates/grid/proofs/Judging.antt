@@ -15,7 +15,7 @@ use lib.Ieee.Fits.{up-pos}
 use borrow.Author.Tests.{leb-true, lt-ltb}
 use Rattle.grid.specs.declared.Record.{Record}
 use Rattle.grid.specs.Inner.Sound.{Sound}
-use Rattle.grid.specs.Fault.{sideFits, sidesFit, sizeFits, allBelow, poleCount, countsFit, polesFit, layerFits, regionFits, spacingsFit, studyFits, faultOf}
+use Rattle.grid.specs.Fault.{sideFits, sidesFit, sizeFits, allBelow, poleCount, openedFit, countsFit, polesFit, layerFits, regionFits, spacingsFit, studyFits, faultOf}
 use Rattle.grid.proofs.Tests.{and-left, and-right, first-none}
 
 -- ---- finite and above zero
@@ -104,15 +104,19 @@ size-of a b c e =
     (sides-of a b c (and-left (sidesFit a b c) (leb (a * b * c) 1048576) e), leb-true _ _ (and-right (sidesFit a b c) (leb (a * b * c) 1048576) e))
 
 -- ---- counts
-pub counts-of : (r : Record) → countsFit r ≡ true → (r .«pole_slots» ≤ 4) × (r .«material_count» ≤ 16)
+pub counts-of : (r : Record) → countsFit r ≡ true → (r .«pole_slots» ≤ 4) × (r .«material_count» ≤ 16) × (r .constants ≤ 1)
 unfolding countsFit
 counts-of r e =
-    let slots = leb (r .«pole_slots») 4 in
+    let slots = openedFit r in
     let low = leb 1 (r .«material_count») in
     let high = leb (r .«material_count») 16 in
     let built = leb (r .«built_count») (r .«material_count») in
     let three = and-left (slots && low && high) built (and-left (slots && low && high && built) (eqb (poleCount r 0) 0) e) in
-    (leb-true (r .«pole_slots») 4 (and-left slots low (and-left (slots && low) high three)), leb-true (r .«material_count») 16 (and-right (slots && low) high three))
+    let two = and-left slots low (and-left (slots && low) high three) in (
+      leb-true (r .«pole_slots») 4 (and-right (leb (r .constants) 1) (leb (r .«pole_slots») 4) two),
+      leb-true (r .«material_count») 16 (and-right (slots && low) high three),
+      leb-true (r .constants) 1 (and-left (leb (r .constants) 1) (leb (r .«pole_slots») 4) two),
+    )
 
 study-counts : (r : Record) → studyFits r ≡ true → countsFit r ≡ true
 unfolding studyFits
@@ -147,3 +151,12 @@ sound r e =
       poles = pole-store-small (r .«pole_slots») (r .nx * r .ny * r .nz) (count .0) (size .1);
       materials = count .1;
     }
+
+-- and its constants are one of the two sets
+pub constants-of : (r : Record) → faultOf r ≡ 0 → r .constants ≤ 1
+unfolding faultOf
+constants-of r e =
+    let h1 = first-none (sizeFits (r .nx) (r .ny) (r .nz)) 0 _ e in
+    let h2 = first-none (spacingsFit (r .spacings)) 1 _ (h1 .1) in
+    let h3 = first-none (studyFits r) 2 0 (h2 .1) in
+    counts-of r (study-counts r (h3 .0)) .2

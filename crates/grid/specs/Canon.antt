@@ -51,4 +51,5 @@ canon r = record {
   «built_count» = r .«built_count»;
   region = canonRegion (r .region);
   clock = r .clock;
+  constants = r .constants;
 }

@@ -1,4 +1,4 @@
--- A record with some of what a call may change put anew. Sizes, pole slots and spacings stay from opening on. Definitions only.
+-- A record with some of what a call may change put anew. Sizes, pole slots, spacings and constants stay from opening on. Definitions only.
 use Prim.Native.Nat.{ℕ}
 use mathlib.Core.Bool.{Bool}
 use mathlib.Core.List.{List}
@@ -22,6 +22,7 @@ edited r periodic active layer materials count built region clock = record {
   «built_count» = built;
   region = region;
   clock = clock;
+  constants = r .constants;
 }
 
 -- periodic and active axes, and whether the layer is on

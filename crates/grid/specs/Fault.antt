@@ -12,7 +12,7 @@ use Rattle.grid.specs.declared.RegionKind.{RegionKind}
 use Rattle.grid.specs.declared.RegionKind.the-variants.{Absent, SlabZ, InjectorZ, BoxRegion}
 use Rattle.grid.specs.declared.Region.{Region}
 use Rattle.grid.specs.declared.Record.{Record}
-use Rattle.grid.specs.Limits.{maxSide, maxCells, maxPoleSlots, maxMaterials}
+use Rattle.grid.specs.Limits.{maxSide, maxCells, maxPoleSlots, maxMaterials, maxConstants}
 
 abbrev pub badSize : ℕ
 badSize = 1
@@ -45,10 +45,14 @@ beyond = record { «eps_inf» = nan; sigma = nan; «mu_r» = nan; «pole_count»
 abbrev pub poleCount : Record → ℕ → ℕ
 poleCount r i = getD (r .materials) i beyond .«pole_count»
 
--- more than 4 pole slots (document 01's P), material count not 1 to 16, built count (the materials that dispersion was built for, 0 where it is off) above it, material 0 with a pole
+-- constants that are neither 0 nor 1, more than 4 pole slots (document 01's P)
+abbrev pub openedFit : Record → Bool
+openedFit r = leb (r .constants) maxConstants && leb (r .«pole_slots») maxPoleSlots
+
+-- one of these, material count not 1 to 16, built count (the materials that dispersion was built for, 0 where it is off) above it, material 0 with a pole
 unfoldable pub countsFit : Record → Bool
 countsFit r =
-    leb (r .«pole_slots») maxPoleSlots
+    openedFit r
     && leb 1 (r .«material_count»)
     && leb (r .«material_count») maxMaterials
     && leb (r .«built_count») (r .«material_count»)

@@ -4,4 +4,5 @@ pub mod Fault
 pub mod Stores
 pub mod Edited
 pub mod Canon
+pub mod Vacuum
 pub mod Inner

@@ -16,6 +16,8 @@ pub const MAX_POLE_SLOTS: usize = 4;
 
 pub const MAX_MATERIALS: usize = 16;
 
+pub const MAX_CONSTANTS: usize = 1;
+
 pub const BAD_SIZE: u32 = 1;
 
 pub const BAD_SPACING: u32 = 2;
@@ -90,7 +92,8 @@ fn layer_fits(active: [bool; 3], layer_on: bool) -> bool
 fn counts_fit(r: Record) -> bool
     ensures { λ b. ⌜ b ≡ countsFit r ⌝ }
 {
-    (r.pole_slots <= MAX_POLE_SLOTS)
+    (r.constants <= MAX_CONSTANTS)
+        & (r.pole_slots <= MAX_POLE_SLOTS)
         & (1 <= r.material_count)
         & (r.material_count <= MAX_MATERIALS)
         & (r.built_count <= r.material_count)

@@ -29,7 +29,8 @@ pub struct Clock {
     pub steps: u32,
 }
 
-// built_count is the number of materials when dispersion was last built, 0 where it is off.
+// built_count is the number of materials when dispersion was last built, 0 where it is off. constants is the set of vacuum's constants, 0 the Rust's and 1
+// those of 2019.
 pub struct Record {
     pub nx: usize,
     pub ny: usize,
@@ -44,6 +45,7 @@ pub struct Record {
     pub built_count: usize,
     pub region: Region,
     pub clock: Clock,
+    pub constants: usize,
 }
 
 // The refusal's number, 0 where the call was accepted, and the record after it.

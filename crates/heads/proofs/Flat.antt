@@ -51,11 +51,12 @@ pub head-is : (l : List ℕ) (ms : List DispersiveMaterial) (x y z t u : Float) 
       «built_count» = getD l 10 0;
       region = record { kind = k; i0 = getD l 14 0; i1 = getD l 15 0; j0 = getD l 16 0; j1 = getD l 17 0; k0 = getD l 18 0; k1 = getD l 19 0 };
       clock = record { time = u; steps = getD l 25 0 };
+      constants = getD l 26 0;
     }) (ghOf l ms)
 unfolding ghOf
 head-is l ms x y z t u k ex ey ez et ek eu = rw (ex, ey, ez, et, ek, eu)
 
--- ---- a record's twenty-six numbers
+-- ---- a record's twenty-seven numbers
 pub region-none : (k : RegionKind) (g : Region) → isAbsent k ≡ true → absentRegion ≡ regionBy k g
 region-none Absent g e = refl
 region-none SlabZ g e = absurd (let z : _≡_ {A = ℕ} 0 1 = cc in let w : ⊥ = omega arith in w)

@@ -17,7 +17,7 @@ use Rattle.grid.specs.declared.Clock.{Clock}
 use Rattle.grid.specs.declared.Region.{Region}
 use Rattle.grid.specs.declared.Record.{Record}
 use Rattle.grid.specs.Canon.{canonRegion}
-use Rattle.heads.specs.Numbers.{kindNum, flagNums, floatNums, ghLength, ghNums, frontWidths, slotWidths, mlLength, slotNums, mlNums}
+use Rattle.heads.specs.Numbers.{kindNum, flagNums, floatNums, oldWidths, ghLength, ghNums, frontWidths, slotWidths, mlLength, slotNums, mlNums}
 use Rattle.heads.specs.Payloads.{headBytes, materialBytes, headOf}
 use Rattle.heads.specs.Inner.Parts.{sizeWidths, flagWidths, countWidths, cornerWidths, floatWidths, planWidths, scaleWidths}
 use Rattle.heads.proofs.Flat.{slot-long, at-any}
@@ -39,31 +39,41 @@ plan-put l m o n at nx ny nz built slots materials kind f e h p q r =
     put-more l o n at (sizeWidths ++ flagWidths) countWidths ((nx ∷ ny ∷ nz ∷ []) ++ f) (built ∷ slots ∷ materials ∷ kind ∷ []) (omega (arith, length-append (nx ∷ ny ∷ nz ∷ []) f)) refl (omega arith)
     (put-more l m o at sizeWidths flagWidths (nx ∷ ny ∷ nz ∷ []) f refl (sym e) (omega arith) p q) r
 
-pub scale-put : (l m o n : List ℕ) (at : ℕ) (g : Region) (s : Spacings) (c : Clock) (x : List ℕ) → x ≡ floatNums s (c .time) → at + 56 ≤ length l →
-    m ≡ put l at (enc cornerWidths (corners g)) → o ≡ put m (at + 12) (enc floatWidths x) → n ≡ put o (at + 52) (le 4 (c .steps)) →
-    n ≡ put l at (enc scaleWidths (corners g ++ floatNums s (c .time) ++ (c .steps ∷ [])))
+pub scale-put : (l m o n t : List ℕ) (at : ℕ) (g : Region) (s : Spacings) (c : Clock) (k : ℕ) (x : List ℕ) → x ≡ floatNums s (c .time) → at + 57 ≤ length l →
+    m ≡ put l at (enc cornerWidths (corners g)) → o ≡ put m (at + 12) (enc floatWidths x) → n ≡ put o (at + 52) (le 4 (c .steps)) → t ≡ put n (at + 56) (le 1 k) →
+    t ≡ put l at (enc scaleWidths (corners g ++ floatNums s (c .time) ++ (c .steps ∷ k ∷ [])))
 unfolding total enc
-scale-put l m o n at g s c x e h p q r =
-    put-more l o n at (cornerWidths ++ floatWidths) (4 ∷ []) (corners g ++ floatNums s (c .time)) (c .steps ∷ []) refl refl (omega arith)
-    (put-more l m o at cornerWidths floatWidths (corners g) (floatNums s (c .time)) refl refl (omega arith) p (q ∙ ap (λ (y : List ℕ). put m (at + 12) (enc floatWidths y)) e)) (r ∙ ap (put o (at + 52)) (sym (append-nil (le 4 (c .steps)))))
+scale-put l m o n t at g s c k x e h p q r u =
+    put-more l n t at (cornerWidths ++ floatWidths ++ (4 ∷ [])) (1 ∷ []) (corners g ++ floatNums s (c .time) ++ (c .steps ∷ [])) (k ∷ []) refl refl (omega arith)
+    (put-more l o n at (cornerWidths ++ floatWidths) (4 ∷ []) (corners g ++ floatNums s (c .time)) (c .steps ∷ []) refl refl (omega arith)
+    (put-more l m o at cornerWidths floatWidths (corners g) (floatNums s (c .time)) refl refl (omega arith) p (q ∙ ap (λ (y : List ℕ). put m (at + 12) (enc floatWidths y)) e)) (r ∙ ap (put o (at + 52)) (sym (append-nil (le 4 (c .steps))))))
+    (u ∙ ap (put n (at + 56)) (sym (append-nil (le 1 k))))
 
 pub head-put : (l m o : List ℕ) (at : ℕ) (r : Record) (f : List ℕ) (g : Region) (k : ℕ) → f ≡ flagNums (r .periodic) (r .active) (r .«layer_on») → g ≡ canonRegion (r .region) →
     k ≡ kindNum (g .kind) → at + ghLength ≤ length l →
     m ≡ put l at (enc planWidths ((r .nx ∷ r .ny ∷ r .nz ∷ []) ++ f ++ (r .«built_count» ∷ r .«pole_slots» ∷ r .«material_count» ∷ k ∷ []))) →
-    o ≡ put m (at + 17) (enc scaleWidths (corners g ++ floatNums (r .spacings) (r .clock .time) ++ (r .clock .steps ∷ []))) → o ≡ put l at (headBytes r)
+    o ≡ put m (at + 17) (enc scaleWidths (corners g ++ floatNums (r .spacings) (r .clock .time) ++ (r .clock .steps ∷ r .constants ∷ []))) → o ≡ put l at (headBytes r)
 unfolding total ghNums
 head-put l m o at r f g k ef eg ek h p q =
     let first : List ℕ = (r .nx ∷ r .ny ∷ r .nz ∷ []) ++ flagNums (r .periodic) (r .active) (r .«layer_on») ++ (r .«built_count» ∷ r .«pole_slots» ∷ r .«material_count» ∷ k ∷ []) in
-    put-more l m o at planWidths scaleWidths first (corners g ++ floatNums (r .spacings) (r .clock .time) ++ (r .clock .steps ∷ [])) refl refl (omega arith)
+    put-more l m o at planWidths scaleWidths first (corners g ++ floatNums (r .spacings) (r .clock .time) ++ (r .clock .steps ∷ r .constants ∷ [])) refl refl (omega arith)
     (p ∙ ap (λ (x : List ℕ). put l at (enc planWidths ((r .nx ∷ r .ny ∷ r .nz ∷ []) ++ x ++ (r .«built_count» ∷ r .«pole_slots» ∷ r .«material_count» ∷ k ∷ [])))) ef) q
     ∙ rw (ek, eg)
 
-pub head-read : (s : List ℕ) (at : ℕ) (n f c g x : List ℕ) (steps : ℕ) → n ≡ nums sizeWidths (drop at s) → f ≡ nums flagWidths (drop (at + 6) s) → c ≡ nums countWidths (drop (at + 13) s) →
+pub head-read : (s : List ℕ) (at : ℕ) (n f c g x : List ℕ) (steps k : ℕ) → n ≡ nums sizeWidths (drop at s) → f ≡ nums flagWidths (drop (at + 6) s) → c ≡ nums countWidths (drop (at + 13) s) →
     g ≡ nums cornerWidths (drop (at + 17) s) → x ≡ nums floatWidths (drop (at + 29) s) → steps ≡ unle (part s (at + 69) 4) →
     (getD n 0 0 ∷ getD n 1 0 ∷ getD n 2 0 ∷ getD f 0 0 ∷ getD f 1 0 ∷ getD f 2 0 ∷ getD f 3 0 ∷ getD f 4 0 ∷ getD f 5 0 ∷ getD f 6 0 ∷ getD c 0 0 ∷ getD c 1 0 ∷ getD c 2 0 ∷ getD c 3 0
-    ∷ getD g 0 0 ∷ getD g 1 0 ∷ getD g 2 0 ∷ getD g 3 0 ∷ getD g 4 0 ∷ getD g 5 0 ∷ getD x 0 0 ∷ getD x 1 0 ∷ getD x 2 0 ∷ getD x 3 0 ∷ getD x 4 0 ∷ steps ∷ []) ≡ headOf (drop at s)
-head-read s at n f c g x steps en ef ec eg ex es =
+    ∷ getD g 0 0 ∷ getD g 1 0 ∷ getD g 2 0 ∷ getD g 3 0 ∷ getD g 4 0 ∷ getD g 5 0 ∷ getD x 0 0 ∷ getD x 1 0 ∷ getD x 2 0 ∷ getD x 3 0 ∷ getD x 4 0 ∷ steps ∷ k ∷ []) ≡ nums oldWidths (drop at s) ++ (k ∷ [])
+head-read s at n f c g x steps k en ef ec eg ex es =
     rw (en ∙ row-at 2 (2 ∷ 2 ∷ []) s at, ef ∙ nums-at flagWidths s at 6, ec ∙ nums-at countWidths s at 13, eg ∙ nums-at cornerWidths s at 17, ex ∙ nums-at floatWidths s at 29, es)
+    (ap (λ (l : List ℕ). l ++ (k ∷ [])) (sym (row-at 2 (2 ∷ 2 ∷ flagWidths ++ countWidths ++ cornerWidths ++ floatWidths ++ (4 ∷ [])) s at)))
+
+-- with the last byte
+pub head-whole : (s : List ℕ) (at : ℕ) (n : List ℕ) (k : ℕ) → n ≡ nums oldWidths (drop at s) ++ (k ∷ []) → k ≡ unle (part s (at + 73) 1) → n ≡ headOf (drop at s)
+head-whole s at n k e ek =
+    e
+    ∙ ap (λ (l : List ℕ). l ++ (k ∷ [])) (row-at 2 (2 ∷ 2 ∷ flagWidths ++ countWidths ++ cornerWidths ++ floatWidths ++ (4 ∷ [])) s at)
+    ∙ rw ek
     (sym (row-at 2 (2 ∷ 2 ∷ flagWidths ++ countWidths ++ scaleWidths) s at))
 
 -- ---- a material

@@ -20,18 +20,25 @@ use Rattle.grid.specs.declared.Record.{Record}
 use Rattle.grid.specs.Canon.{canonRegion}
 use Rattle.grid.specs.Fault.{allBelow}
 
--- ---- GH: nx ny nz; periodic, active; layer on, built count, P, M, region kind; i0 i1 j0 j1 k0 k1; dx dy dz dt; time; steps
-abbrev pub ghWidths : List ℕ
-ghWidths =
+-- ---- GH: nx ny nz; periodic, active; layer on, built count, P, M, region kind; i0 i1 j0 j1 k0 k1; dx dy dz dt; time; steps; then the constants. A GH
+-- written before document 02's S-7 ends with the steps
+abbrev pub oldWidths : List ℕ
+oldWidths =
     2 ∷ 2 ∷ 2
     ∷ 1 ∷ 1 ∷ 1 ∷ 1 ∷ 1 ∷ 1
     ∷ 1 ∷ 1 ∷ 1 ∷ 1 ∷ 1
     ∷ 2 ∷ 2 ∷ 2 ∷ 2 ∷ 2 ∷ 2
     ∷ 8 ∷ 8 ∷ 8 ∷ 8 ∷ 8 ∷ 4 ∷ []
 
--- the sum of these (`gh-total`)
+abbrev pub ghWidths : List ℕ
+ghWidths = oldWidths ++ (1 ∷ [])
+
+-- the sums of these (`old-total`, `gh-total`)
+abbrev pub oldLength : ℕ
+oldLength = 73
+
 abbrev pub ghLength : ℕ
-ghLength = 73
+ghLength = 74
 
 abbrev pub flagNum : Bool → ℕ
 flagNum b = cond b 1 0
@@ -57,7 +64,7 @@ ghNums r =
     ++ flagNums (r .periodic) (r .active) (r .«layer_on»)
     ++ (r .«built_count» ∷ r .«pole_slots» ∷ r .«material_count» ∷ kindNum (g .kind) ∷ g .i0 ∷ g .i1 ∷ g .j0 ∷ g .j1 ∷ g .k0 ∷ g .k1 ∷ [])
     ++ floatNums (r .spacings) (r .clock .time)
-    ++ (r .clock .steps ∷ [])
+    ++ (r .clock .steps ∷ r .constants ∷ [])
 
 -- ---- ML: eps_inf, sigma, mu_r, pole count; four places of a tag and three numbers
 abbrev pub frontWidths : List ℕ
@@ -94,7 +101,7 @@ mlNums m =
     (bits (m .«eps_inf») ∷ bits (m .sigma) ∷ bits (m .«mu_r») ∷ n ∷ [])
     ++ joined 4 (λ i. slotNums (ltb i n) (getD (m .poles) i blankSlot))
 
--- ---- back: GH, from its twenty-six numbers
+-- ---- back: GH, from its twenty-seven numbers
 abbrev pub kindOf : ℕ → RegionKind
 kindOf n = cond (eqb n 0) Absent (cond (eqb n 1) SlabZ (cond (eqb n 2) InjectorZ BoxRegion))
 
@@ -115,6 +122,7 @@ ghOf l materials =
       «built_count» = n 10;
       region = record { kind = kindOf (n 13); i0 = n 14; i1 = n 15; j0 = n 16; j1 = n 17; k0 = n 18; k1 = n 19 };
       clock = record { time = ofBits binary64 (n 24); steps = n 25 };
+      constants = n 26;
     }
 
 -- flags 0 or 1, a region kind up to 3

@@ -1,8 +1,8 @@
 -- The payloads of GH and ML as bytes, written and read. A save has each in a record of its own (format/specs), a caller's block one behind the other
 -- (block/specs). Definitions only.
 use Prim.Native.Nat.{ℕ, _*_}
-use mathlib.Core.Bool.{cond}
-use mathlib.Core.List.{List}
+use mathlib.Core.Bool.{Bool, cond}
+use mathlib.Core.List.{List, [], _∷_, _++_}
 use lib.Dec.{ltb}
 use lib.ListN.{getD, drop}
 use Rattle.codec.specs.Bytes.{enc, nums}
@@ -10,7 +10,7 @@ use Rattle.dispersion.specs.declared.DispersiveMaterial.{DispersiveMaterial}
 use Rattle.dispersion.specs.Material.{vacuumMaterial}
 use Rattle.cells.specs.Cells.{row}
 use Rattle.grid.specs.declared.Record.{Record}
-use Rattle.heads.specs.Numbers.{ghWidths, ghNums, ghOf, mlWidths, mlLength, mlNums, mlOf}
+use Rattle.heads.specs.Numbers.{oldWidths, ghWidths, ghNums, ghOf, mlWidths, mlLength, mlNums, mlOf}
 
 -- ---- written
 abbrev pub headBytes : Record → List ℕ
@@ -19,9 +19,16 @@ headBytes r = enc ghWidths (ghNums r)
 abbrev pub materialBytes : DispersiveMaterial → List ℕ
 materialBytes m = enc mlWidths (mlNums m)
 
--- ---- read: GH's twenty-six numbers, of which the thirteenth is the material count M
+-- ---- read: GH's twenty-seven numbers, of which the thirteenth is the material count M
 abbrev pub headOf : List ℕ → List ℕ
 headOf b = nums ghWidths b
+
+-- of a GH that ends with the steps the last is 0, the Rust's constants
+abbrev pub oldHeadOf : List ℕ → List ℕ
+oldHeadOf b = nums oldWidths b ++ (0 ∷ [])
+
+abbrev pub headBy : (old : Bool) → List ℕ → List ℕ
+headBy old b = cond old (oldHeadOf b) (headOf b)
 
 abbrev pub countOf : List ℕ → ℕ
 countOf g = getD g 12 0

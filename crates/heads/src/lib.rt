@@ -18,8 +18,10 @@ use grid::RegionKind;
 use grid::fault;
 use root::Spacings;
 
-// The bytes of GH's payload, and of one material.
-pub const GH_LENGTH: usize = 73;
+// The bytes of GH's payload, as it is written and as it was before the constants, and of one material.
+pub const GH_LENGTH: usize = 74;
+
+pub const OLD_LENGTH: usize = 73;
 
 pub const ML_LENGTH: usize = 125;
 
@@ -228,7 +230,7 @@ pub fn kept_region(g: Region) -> Region
     g
 }
 
-fn flags_fine(n: [u64; 26]) -> bool
+fn flags_fine(n: [u64; 27]) -> bool
     ensures { λ f. ⌜ f ≡ flagsFine n ⌝ }
 {
     (n[3] <= 1)
@@ -241,7 +243,7 @@ fn flags_fine(n: [u64; 26]) -> bool
         & (n[13] <= 3)
 }
 
-fn corners_fine(n: [u64; 26]) -> bool
+fn corners_fine(n: [u64; 27]) -> bool
     ensures { λ f. ⌜ f ≡ cornersFine n ⌝ }
 {
     (0 < n[13])
@@ -249,14 +251,14 @@ fn corners_fine(n: [u64; 26]) -> bool
 }
 
 // Whether numbers are a record's, its floats any patterns.
-pub fn gh_shaped(n: [u64; 26]) -> bool
+pub fn gh_shaped(n: [u64; 27]) -> bool
     ensures { λ f. ⌜ f ≡ ghShaped n ⌝ }
 {
     flags_fine(n) & corners_fine(n)
 }
 
 // Whether they are a record's as a save has it: no NaN but the one.
-pub fn gh_fine(n: [u64; 26]) -> bool
+pub fn gh_fine(n: [u64; 27]) -> bool
     ensures { λ f. ⌜ f ≡ ghFine n ⌝ }
 {
     let spacings = floats::is_fine(n[20])
@@ -266,7 +268,7 @@ pub fn gh_fine(n: [u64; 26]) -> bool
     gh_shaped(n) & (spacings & floats::is_fine(n[24]))
 }
 
-pub fn gh_of(n: [u64; 26], materials: [DispersiveMaterial; 16]) -> Record
+pub fn gh_of(n: [u64; 27], materials: [DispersiveMaterial; 16]) -> Record
     requires { ⌜ getD n 25 0 ≤ 4294967295 ⌝ }
     ensures { λ r. ⌜ r ≡ ghOf n materials ⌝ }
 {
@@ -305,5 +307,6 @@ pub fn gh_of(n: [u64; 26], materials: [DispersiveMaterial; 16]) -> Record
         built_count: n[10] as usize,
         region,
         clock,
+        constants: n[26] as usize,
     }
 }

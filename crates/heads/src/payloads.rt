@@ -5,8 +5,8 @@ ghost use Prim.Native.Nat.{_+_, _≤_};
 ghost use lib.ListN.{length, drop};
 ghost use Rattle.codec.specs.Lists.{put, part};
 ghost use Rattle.codec.specs.Bytes.{le, unle, enc, nums, bits};
-ghost use Rattle.heads.specs.Numbers.{ghLength, floatNums, frontWidths, slotWidths, mlLength};
-ghost use Rattle.heads.specs.Payloads.{headBytes, materialBytes, headOf, entryOf};
+ghost use Rattle.heads.specs.Numbers.{oldWidths, oldLength, ghLength, floatNums, frontWidths, slotWidths, mlLength};
+ghost use Rattle.heads.specs.Payloads.{headBytes, materialBytes, headOf, oldHeadOf, entryOf};
 ghost use Rattle.heads.specs.Inner.Parts.{sizeWidths, flagWidths, countWidths, cornerWidths, floatWidths, planWidths, scaleWidths};
 use crate::flag_nums;
 use crate::float_nums;
@@ -98,9 +98,10 @@ fn floats_at(s: &[u8], at: usize) -> [u64; 5]
     ]
 }
 
-pub fn get_gh(s: &[u8], at: usize) -> [u64; 26]
-    requires { ⌜ at + ghLength ≤ length (now s) ⌝ }
-    ensures { λ n. ⌜ n ≡ headOf (drop at (now (s .entry))) ⌝ }
+// GH's numbers up to the steps, and one more.
+fn head_with(s: &[u8], at: usize, constants: u64) -> [u64; 27]
+    requires { ⌜ at + oldLength ≤ length (now s) ⌝ }
+    ensures { λ n. ⌜ n ≡ nums oldWidths (drop at (now (s .entry))) ++ (constants ∷ []) ⌝ }
 {
     let n = sizes_at(s, at);
     let f = flags_at(s, at + 6);
@@ -135,7 +136,24 @@ pub fn get_gh(s: &[u8], at: usize) -> [u64; 26]
         x[3],
         x[4],
         steps,
+        constants,
     ]
+}
+
+pub fn get_gh(s: &[u8], at: usize) -> [u64; 27]
+    requires { ⌜ at + ghLength ≤ length (now s) ⌝ }
+    ensures { λ n. ⌜ n ≡ headOf (drop at (now (s .entry))) ⌝ }
+{
+    let constants = byte_at(s, at + 73);
+    head_with(s, at, constants)
+}
+
+// The same of a GH that ends with the steps.
+pub fn get_old_gh(s: &[u8], at: usize) -> [u64; 27]
+    requires { ⌜ at + oldLength ≤ length (now s) ⌝ }
+    ensures { λ n. ⌜ n ≡ oldHeadOf (drop at (now (s .entry))) ⌝ }
+{
+    head_with(s, at, 0)
 }
 
 fn slot_at(s: &[u8], at: usize) -> [u64; 4]
@@ -291,14 +309,22 @@ fn put_corners(out: &mut [u8], at: usize, g: Region)
     put_three_twos(out, at + 6, g.j1 as u64, g.k0 as u64, g.k1 as u64);
 }
 
-// The 56 bytes from the corners on.
-fn put_scale(out: &mut [u8], at: usize, g: Region, spacings: Spacings, clock: Clock)
-    requires { ⌜ at + 56 ≤ length (now out) ⌝ }
-    ensures { λ _. ⌜ now (out .exit) ≡ put (now (out .entry)) at (enc scaleWidths ((g .i0 ∷ g .i1 ∷ g .j0 ∷ g .j1 ∷ g .k0 ∷ g .k1 ∷ []) ++ floatNums spacings (clock .time) ++ (clock .steps ∷ []))) ⌝ }
+// The 57 bytes from the corners on.
+fn put_scale(
+    out: &mut [u8],
+    at: usize,
+    g: Region,
+    spacings: Spacings,
+    clock: Clock,
+    constants: usize,
+)
+    requires { ⌜ at + 57 ≤ length (now out) ⌝ }
+    ensures { λ _. ⌜ now (out .exit) ≡ put (now (out .entry)) at (enc scaleWidths ((g .i0 ∷ g .i1 ∷ g .j0 ∷ g .j1 ∷ g .k0 ∷ g .k1 ∷ []) ++ floatNums spacings (clock .time) ++ (clock .steps ∷ constants ∷ []))) ⌝ }
 {
     put_corners(out, at, g);
     put_floats(out, at + 12, float_nums(spacings, clock.time));
     numbers::put_u32(out, at + 52, clock.steps);
+    put_byte(out, at + 56, constants as u64);
 }
 
 pub fn put_gh(out: &mut [u8], at: usize, r: Record)
@@ -326,7 +352,7 @@ pub fn put_gh(out: &mut [u8], at: usize, r: Record)
     );
     let spacings = r.spacings;
     let clock = r.clock;
-    put_scale(out, at + 17, g, spacings, clock);
+    put_scale(out, at + 17, g, spacings, clock, r.constants);
 }
 
 fn put_slot(out: &mut [u8], at: usize, n: [u64; 4])

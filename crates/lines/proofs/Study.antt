@@ -17,12 +17,11 @@ use Rattle.grid.specs.declared.Record.{Record}
 use Rattle.grid.specs.Inner.Sound.{Sound}
 use Rattle.grid.specs.Stores.{Stores, cells, storeLengths, numberAt}
 use Rattle.grid.proofs.Judging.{sound}
-use Rattle.heads.specs.Numbers.{ghOf}
+use Rattle.heads.specs.Numbers.{ghLength, ghOf}
 use Rattle.format.specs.Save.{saveLength}
-use Rattle.format.specs.Rewind.{bare, bytesFault, readRecord, readStores}
-use Rattle.format.proofs.Written.{save-long}
-use Rattle.format.proofs.Again.{read-none, read-lengths, bytes-again}
-use Rattle.saves.specs.Inner.Places.{storesPlace, storesAt}
+use Rattle.format.specs.Rewind.{isOld, headSize, bare, bytesFault, readRecord, readStores}
+use Rattle.format.proofs.Again.{read-none, read-long}
+use Rattle.saves.specs.Inner.Places.{storesFrom, storesAt}
 use Rattle.saves.proofs.Taken.{all-bytes, stores-read}
 use Rattle.lines.specs.declared.fields.Fields.{Fields}
 use Rattle.lines.specs.Listing.{cellLine, cellLines, headLine, studyLines, listFault}
@@ -81,30 +80,34 @@ grid-same b f nx ny nz e h n pe ph =
 
 -- ---- the study
 module _ (b : List ℕ) where
-  electric-at : readStores b .electric ≡ floatsOf (3 * cells (readRecord b)) (drop (fieldsOf (readRecord b) .electric) b)
+  -- where its stores begin
+  abbrev from : Record → ℕ
+  from r = storesFrom (isOld b) (r .«material_count»)
+
+  electric-at : readStores b .electric ≡ floatsOf (3 * cells (readRecord b)) (drop (fieldsOf (from (readRecord b)) (readRecord b) .electric) b)
   unfolding storesAt storeLengths bare ghOf readRecord
   electric-at =
       let n = cells (readRecord b) in
-      let at = storesPlace (readRecord b .«material_count») in
+      let at = from (readRecord b) in
       let e : at + (18 + 4 * n + 8 * (3 * n)) ≡ at + (18 + 28 * n) = omega arith in
       sym (ap (λ (s : Stores). s .electric) (stores-read b)) ∙ ap (λ (k : ℕ). floatsOf (3 * n) (drop k b)) e
 
-  magnetic-at : readStores b .magnetic ≡ floatsOf (3 * cells (readRecord b)) (drop (fieldsOf (readRecord b) .magnetic) b)
+  magnetic-at : readStores b .magnetic ≡ floatsOf (3 * cells (readRecord b)) (drop (fieldsOf (from (readRecord b)) (readRecord b) .magnetic) b)
   unfolding storesAt storeLengths bare ghOf readRecord
   magnetic-at =
       let n = cells (readRecord b) in
-      let at = storesPlace (readRecord b .«material_count») in
+      let at = from (readRecord b) in
       let e : at + (24 + 4 * n + 8 * (3 * n) + 8 * (3 * n)) ≡ at + (24 + 52 * n) = omega arith in
       sym (ap (λ (s : Stores). s .magnetic) (stores-read b)) ∙ ap (λ (k : ℕ). floatsOf (3 * n) (drop k b)) e
 
   study-lines : (r : Record) → r ≡ readRecord b →
-      headLine (r .nx) (r .ny) (r .nz) (r .clock .steps) (r .«material_count») ++ gridText b (fieldsOf r) (r .nx) (r .ny) (r .nz) ≡ studyLines (readRecord b) (readStores b)
+      headLine (r .nx) (r .ny) (r .nz) (r .clock .steps) (r .«material_count») ++ gridText b (fieldsOf (from r) r) (r .nx) (r .ny) (r .nz) ≡ studyLines (readRecord b) (readStores b)
   unfolding studyLines
   study-lines r own =
       let q = readRecord b in
-      ap (λ (t : Record). headLine (t .nx) (t .ny) (t .nz) (t .clock .steps) (t .«material_count») ++ gridText b (fieldsOf t) (t .nx) (t .ny) (t .nz)) own
+      ap (λ (t : Record). headLine (t .nx) (t .ny) (t .nz) (t .clock .steps) (t .«material_count») ++ gridText b (fieldsOf (from t) t) (t .nx) (t .ny) (t .nz)) own
       ∙ ap (λ (t : List ℕ). headLine (q .nx) (q .ny) (q .nz) (q .clock .steps) (q .«material_count») ++ t)
-      (grid-same b (fieldsOf q) (q .nx) (q .ny) (q .nz) (readStores b .electric) (readStores b .magnetic) refl electric-at magnetic-at)
+      (grid-same b (fieldsOf (from q) q) (q .nx) (q .ny) (q .nz) (readStores b .electric) (readStores b .magnetic) refl electric-at magnetic-at)
 
   module _ (small : (i : ℕ) → getD b i 0 < 256) (none : bytesFault b ≡ 0) (r : Record) (own : r ≡ readRecord b) where
     bytes : T (bytesFit b)
@@ -113,13 +116,10 @@ module _ (b : List ℕ) where
     pub read-sound : Sound r
     read-sound = subst Sound (sym own) (sound (readRecord b) (read-none b bytes none))
 
-    long : length b ≡ saveLength r
-    long =
-        ap length (sym (bytes-again b bytes none))
-        ∙ save-long (readRecord b) (readStores b) (read-lengths b bytes none)
-        ∙ ap saveLength (sym own)
+    long : length b + ghLength ≡ saveLength r + headSize b
+    long = read-long b bytes none ∙ ap (λ (t : Record). saveLength t + headSize b) (sym own)
 
-    pub read-lies : cells r ≤ 64 → Lies (fieldsOf r) (length b)
+    pub read-lies : cells r ≤ 64 → Lies (fieldsOf (from r) r) (length b)
     unfolding saveLength
     read-lies h = record { e = omega (arith, long); h = omega (arith, long); few = h }
 
@@ -136,13 +136,16 @@ module _ (b : List ℕ) where
         ap (λ (x : ℕ). x * r .nz) (mul-assoc 135 (r .nx) (r .ny)) ∙ mul-assoc 135 (r .nx * r .ny) (r .nz) in
         omega (arith, e, study-few)
 
-    module _ (f : Fields) (at : f ≡ fieldsOf r) where
+    module _ (k : ℕ) (begins : k ≡ storesFrom (isOld b) (r .«material_count»)) (f : Fields) (told : f ≡ fieldsOf k r) where
+      at : f ≡ fieldsOf (from r) r
+      at = told ∙ ap (λ (i : ℕ). fieldsOf i r) begins
+
       pub study-lies : Lies f (length b)
       study-lies = subst (λ (x : Fields). Lies x (length b)) (sym at) (read-lies small (no-fault b ok) r own study-few)
 
-      pub study-wrote : (l k o : List ℕ) (p q : ℕ) → TextPut 77 l 0 (headLine (r .nx) (r .ny) (r .nz) (r .clock .steps) (r .«material_count»)) k p →
-          TextPut (135 * r .nx * r .ny * r .nz) k p (gridText b f (r .nx) (r .ny) (r .nz)) o q → TextPut 8717 l 0 (studyLines (readRecord b) (readStores b)) o q
-      study-wrote l k o p q v w =
-          let grid = subst (λ (x : Fields). TextPut (135 * r .nx * r .ny * r .nz) k p (gridText b x (r .nx) (r .ny) (r .nz)) o q) at w in
+      pub study-wrote : (l m o : List ℕ) (p q : ℕ) → TextPut 77 l 0 (headLine (r .nx) (r .ny) (r .nz) (r .clock .steps) (r .«material_count»)) m p →
+          TextPut (135 * r .nx * r .ny * r .nz) m p (gridText b f (r .nx) (r .ny) (r .nz)) o q → TextPut 8717 l 0 (studyLines (readRecord b) (readStores b)) o q
+      study-wrote l m o p q v w =
+          let grid = subst (λ (x : Fields). TextPut (135 * r .nx * r .ny * r .nz) m p (gridText b x (r .nx) (r .ny) (r .nz)) o q) at w in
           subst (λ (t : List ℕ). TextPut 8717 l 0 t o q) (study-lines r own)
-          (wrote-wider _ 8717 l o 0 q _ (omega (arith, study-most)) (wrote-then 77 _ l k o 0 p q _ _ v grid))
+          (wrote-wider _ 8717 l o 0 q _ (omega (arith, study-most)) (wrote-then 77 _ l m o 0 p q _ _ v grid))

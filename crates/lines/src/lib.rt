@@ -14,10 +14,8 @@ use fields::Fields;
 use grid::Record;
 use grid::fault;
 use grid::stores;
-use heads::ML_LENGTH;
 use saves::gets;
 use saves::judge;
-use saves::puts::ENTRIES_PLACE;
 
 pub const MOST_BYTES: usize = 24576;
 
@@ -79,16 +77,15 @@ fn put_head(out: &mut [u8], nx: u32, ny: u32, nz: u32, steps: u32, materials: u3
     text::put_number(out, t, materials, text::NEWLINE)
 }
 
-// Where a save of this study has the fields: after GH, ML, CI and CM, each record with six bytes before it.
-fn fields_of(r: Record) -> Fields
-    requires { ⌜ Sound r ⌝ }
-    ensures { λ f. ⌜ f ≡ fieldsOf r ⌝ }
+// Where a save of this study has the fields, whose records of stores begin at `from`: after CI and CM, each record with six bytes before it.
+fn fields_of(from: usize, r: Record) -> Fields
+    requires { ⌜ Sound r × (from ≤ 2086) ⌝ }
+    ensures { λ f. ⌜ f ≡ fieldsOf from r ⌝ }
 {
     let n = r.nx * r.ny * r.nz;
-    let at = ENTRIES_PLACE + ML_LENGTH * r.material_count;
     Fields {
-        electric: at + (18 + 28 * n),
-        magnetic: at + (24 + 52 * n),
+        electric: from + (18 + 28 * n),
+        magnetic: from + (24 + 52 * n),
         cells: n,
     }
 }
@@ -98,7 +95,8 @@ fn put_study(out: &mut [u8], b: &[u8]) -> usize
     ensures { λ n. ⌜ TextPut 8717 (now (out .entry)) 0 (studyLines (readRecord (now (b .entry))) (readStores (now (b .entry)))) (now (out .exit)) n ⌝ }
 {
     let r = gets::get_record(b);
-    let f = fields_of(r);
+    let from = gets::stores_from(b, r.material_count);
+    let f = fields_of(from, r);
     let p = put_head(
         out,
         r.nx as u32,

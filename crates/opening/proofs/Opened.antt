@@ -72,6 +72,6 @@ opened-are r s e h m pe ph t p a i len h0 h1 h2 h3 h4 h5 h6 h7 h8 =
     rw (e0, e1, h2, e3, e4, h5, e6, e7, e8)
 
 -- an opened record is its own canon
-pub open-canon : (nx ny nz slots : ℕ) (s : Spacings) → canon (openRecord nx ny nz slots s) ≡ openRecord nx ny nz slots s
+pub open-canon : (nx ny nz slots : ℕ) (s : Spacings) (c : ℕ) → canon (openRecord nx ny nz slots s c) ≡ openRecord nx ny nz slots s c
 unfolding canon keepFirst canonMaterial canonRegion
-open-canon nx ny nz slots s = refl
+open-canon nx ny nz slots s c = refl

@@ -12,8 +12,8 @@ use Rattle.grid.specs.Canon.{absentRegion}
 use Rattle.grid.specs.Stores.{Stores, Outcome, settle, stores, zeros, cells, storeLengths, lengthsOf, faultWith}
 
 -- material 0 vacuum and alone, nothing periodic or active, layer off, built count 0, no region, time +0.0, steps 0
-abbrev pub openRecord : (nx ny nz slots : ℕ) → Spacings → Record
-openRecord nx ny nz slots s = record {
+abbrev pub openRecord : (nx ny nz slots : ℕ) → Spacings → (constants : ℕ) → Record
+openRecord nx ny nz slots s constants = record {
   nx = nx;
   ny = ny;
   nz = nz;
@@ -27,6 +27,7 @@ openRecord nx ny nz slots s = record {
   «built_count» = 0;
   region = absentRegion;
   clock = record { time = zeroF; steps = 0 };
+  constants = constants;
 }
 
 -- eps_r and mu_r 1.0, sigma +0.0
@@ -47,7 +48,7 @@ openStores r =
     (openTables (r .nx) (r .ny) (r .nz)) (zeros (l .poles)) (zeros (l .aux)) (replicate (cells r) 0)
 
 -- the standing record is not judged, and is given back where opening is refused
-unfoldable pub openCall : Record → (nx ny nz slots : ℕ) → Spacings → Stores → Outcome Stores
-openCall standing nx ny nz slots d s =
-    let r = openRecord nx ny nz slots d in
+unfoldable pub openCall : Record → (nx ny nz slots : ℕ) → Spacings → (constants : ℕ) → Stores → Outcome Stores
+openCall standing nx ny nz slots d constants s =
+    let r = openRecord nx ny nz slots d constants in
     settle (faultWith r (lengthsOf s)) standing s r (openStores r)

@@ -19,8 +19,15 @@ use grid::stores::Lengths;
 use root::Spacings;
 
 // What an accepted opening gives; nothing is judged here. A host takes its first standing record from it.
-pub fn open_record(nx: usize, ny: usize, nz: usize, pole_slots: usize, spacings: Spacings) -> Record
-    ensures { λ r. ⌜ r ≡ openRecord nx ny nz «pole_slots» spacings ⌝ }
+pub fn open_record(
+    nx: usize,
+    ny: usize,
+    nz: usize,
+    pole_slots: usize,
+    spacings: Spacings,
+    constants: usize,
+) -> Record
+    ensures { λ r. ⌜ r ≡ openRecord nx ny nz «pole_slots» spacings constants ⌝ }
 {
     let vacuum = DispersiveMaterial::vacuum();
     let materials = [vacuum; 16];
@@ -52,6 +59,7 @@ pub fn open_record(nx: usize, ny: usize, nz: usize, pole_slots: usize, spacings:
         built_count: 0,
         region,
         clock,
+        constants,
     }
 }
 
@@ -119,6 +127,7 @@ pub fn new_rect(
     nz: usize,
     pole_slots: usize,
     spacings: Spacings,
+    constants: usize,
     e: &mut [f64],
     h: &mut [f64],
     media: &mut [f64],
@@ -129,9 +138,9 @@ pub fn new_rect(
     aux: &mut [f64],
     ids: &mut [u32],
 ) -> Answer
-    ensures { λ o. ⌜ outcome (o .refusal) (o .study) (stores (now (e .exit)) (now (h .exit)) (now (media .exit)) (now («psi_e» .exit)) (now («psi_h» .exit)) (now (tables .exit)) (now (poles .exit)) (now (aux .exit)) (now (ids .exit))) ≡ openCall standing nx ny nz «pole_slots» spacings (stores (now (e .entry)) (now (h .entry)) (now (media .entry)) (now («psi_e» .entry)) (now («psi_h» .entry)) (now (tables .entry)) (now (poles .entry)) (now (aux .entry)) (now (ids .entry))) ⌝ }
+    ensures { λ o. ⌜ outcome (o .refusal) (o .study) (stores (now (e .exit)) (now (h .exit)) (now (media .exit)) (now («psi_e» .exit)) (now («psi_h» .exit)) (now (tables .exit)) (now (poles .exit)) (now (aux .exit)) (now (ids .exit))) ≡ openCall standing nx ny nz «pole_slots» spacings constants (stores (now (e .entry)) (now (h .entry)) (now (media .entry)) (now («psi_e» .entry)) (now («psi_h» .entry)) (now (tables .entry)) (now (poles .entry)) (now (aux .entry)) (now (ids .entry))) ⌝ }
 {
-    let r = open_record(nx, ny, nz, pole_slots, spacings);
+    let r = open_record(nx, ny, nz, pole_slots, spacings, constants);
     let lent = Lengths {
         electric: e.len(),
         magnetic: h.len(),

@@ -1,8 +1,8 @@
-// A fixed list of answers of the original, run again. Standard input has, all numbers with the lowest byte first: how many studies there are
-// (four bytes), and then each study:
+// A fixed list of answers of the original, run again; to studies with the constants of 2019 the original answered with these put into its
+// text. Standard input has, all numbers with the lowest byte first: how many studies there are (four bytes), and then each study:
 //
 //   ten counts of four bytes: e, h, media, psi_e, psi_h, tables, poles, aux, ids, samples
-//   the block, 2073 bytes; the nine stores in the order of the counts; the samples, one to a step
+//   the block, 2074 bytes; the nine stores in the order of the counts; the samples, one to a step
 //   the answers of the original: e, h, psi_e, psi_h, poles, aux and the block after the steps
 //
 // Doubles are eight bytes, every NaN 7FF8000000000000; ids are four. The steps are run, and every number and every byte of the block

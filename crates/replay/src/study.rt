@@ -13,6 +13,7 @@ use super::input::Counts;
 use super::input::LONGEST;
 use block::BLOCK_LENGTH;
 use grid::Record;
+use root::vacuum;
 
 // What came of a study. Where it is not whole the list does not hold it, and the rest is 0.
 pub struct Outcome {
@@ -167,10 +168,11 @@ fn replayed(
     aux: &mut [f64],
     ids: &[u32],
 ) -> Outcome {
+    let v = vacuum::chosen(r.constants);
     let o = run::run(
-        root::EPS0,
-        root::MU0,
-        root::C0,
+        v.eps0,
+        v.mu0,
+        v.c0,
         r,
         samples,
         e,

@@ -22,6 +22,13 @@ pub const MU0: f64 = 4.0 * PI * 1e-7;
 
 pub const C0: f64 = 299792458.0105029;
 
+// The same by CODATA 2018, where the speed of light is the stated one.
+pub const EPS0_2019: f64 = 8.8541878128e-12;
+
+pub const MU0_2019: f64 = 1.25663706212e-6;
+
+pub const C0_2019: f64 = 299792458.0;
+
 // A whole number m * 2^k.
 struct Scaled {
     pub m: u64,

@@ -35,7 +35,7 @@ fn unit_spacings() -> Spacings {
 // A study of one cell without pole slots.
 fn one_cell() -> Record {
     let s = unit_spacings();
-    let standing = opening::open_record(0, 0, 0, 0, s);
+    let standing = opening::open_record(0, 0, 0, 0, s, 0);
     let mut e = [0.0; 3];
     let mut h = [0.0; 3];
     let mut media = [0.0; 3];
@@ -52,6 +52,7 @@ fn one_cell() -> Record {
         1,
         0,
         s,
+        0,
         &mut e,
         &mut h,
         &mut media,
@@ -68,7 +69,7 @@ fn one_cell() -> Record {
 // A study of 24 cells along z.
 fn line() -> Record {
     let s = unit_spacings();
-    let standing = opening::open_record(0, 0, 0, 0, s);
+    let standing = opening::open_record(0, 0, 0, 0, s, 0);
     let mut e = [0.0; 72];
     let mut h = [0.0; 72];
     let mut media = [0.0; 72];
@@ -85,6 +86,7 @@ fn line() -> Record {
         24,
         0,
         s,
+        0,
         &mut e,
         &mut h,
         &mut media,
@@ -208,9 +210,9 @@ fn main() {
         b"a wave's line after one step and two",
         waves::wave_sent(3.0, 0.5),
     );
-    say(b"a fresh save of 1,388 bytes", small::has_1388());
+    say(b"a fresh save of 1,389 bytes", small::has_1389());
     say(
-        b"1,387 of them are 13, 1,389 are 16",
+        b"1,388 of them are 13, 1,390 are 16",
         small::one_less_one_more(),
     );
 }

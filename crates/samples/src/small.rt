@@ -4,7 +4,7 @@ use crate::unit_spacings;
 // Opens the study and saves it; the refusal.
 fn written(out: &mut [u8]) -> u32 {
     let s = unit_spacings();
-    let standing = opening::open_record(0, 0, 0, 0, s);
+    let standing = opening::open_record(0, 0, 0, 0, s, 0);
     let mut e = [1.5; 3];
     let mut h = [1.5; 3];
     let mut media = [1.5; 3];
@@ -21,6 +21,7 @@ fn written(out: &mut [u8]) -> u32 {
         1,
         0,
         s,
+        0,
         &mut e,
         &mut h,
         &mut media,
@@ -49,7 +50,7 @@ fn written(out: &mut [u8]) -> u32 {
 
 // Takes the save up into stores for one cell; the refusal.
 fn taken_up(save: &[u8]) -> u32 {
-    let standing = opening::open_record(0, 0, 0, 0, unit_spacings());
+    let standing = opening::open_record(0, 0, 0, 0, unit_spacings(), 0);
     let mut e = [1.5; 3];
     let mut h = [1.5; 3];
     let mut media = [1.5; 3];
@@ -75,18 +76,18 @@ fn taken_up(save: &[u8]) -> u32 {
     o.refusal
 }
 
-// 1,388 bytes: with room for 1,389 the last one is left, with room for 1,387 it is refused.
-pub fn has_1388() -> bool {
-    let r = opening::open_record(1, 1, 1, 0, unit_spacings());
-    let mut roomy = [7u8; 1389];
-    let mut narrow = [7u8; 1387];
+// 1,389 bytes: with room for 1,390 the last one is left, with room for 1,388 it is refused.
+pub fn has_1389() -> bool {
+    let r = opening::open_record(1, 1, 1, 0, unit_spacings(), 0);
+    let mut roomy = [7u8; 1390];
+    let mut narrow = [7u8; 1388];
     let w = written(&mut roomy);
     let n = written(&mut narrow);
-    (saves::save_length(r).length == 1388)
+    (saves::save_length(r).length == 1389)
         & (w == 0)
         & (n == 12)
-        & (roomy[1388] == 7)
-        & (roomy[1387] == 0)
+        & (roomy[1389] == 7)
+        & (roomy[1388] == 0)
         & (narrow[0] == 7)
 }
 
@@ -98,12 +99,12 @@ fn cut_to(save: &[u8], n: usize) -> &[u8] {
     &save[0..n]
 }
 
-// All of it is taken up; 1,387 bytes are 13 Short, 1,389 are 16 Trailing.
+// All of it is taken up; 1,388 bytes are 13 Short, 1,390 are 16 Trailing.
 pub fn one_less_one_more() -> bool {
-    let mut out = [7u8; 1389];
+    let mut out = [7u8; 1390];
     let w = written(&mut out);
-    let all = taken_up(cut_to(&out, 1388));
-    let less = taken_up(cut_to(&out, 1387));
+    let all = taken_up(cut_to(&out, 1389));
+    let less = taken_up(cut_to(&out, 1388));
     let more = taken_up(&out);
     (w == 0) & (all == 0) & (less == 13) & (more == 16)
 }

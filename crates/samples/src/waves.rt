@@ -70,7 +70,7 @@ pub fn wave_sent(first: f64, second: f64) -> bool {
     let mut poles = [1.5; 12];
     let mut aux = [1.5; 104];
     let mut ids = [7u32; 4];
-    let standing = opening::open_record(0, 0, 0, 0, s);
+    let standing = opening::open_record(0, 0, 0, 0, s, 0);
     let o = opening::new_rect(
         standing,
         1,
@@ -78,6 +78,7 @@ pub fn wave_sent(first: f64, second: f64) -> bool {
         4,
         0,
         s,
+        0,
         &mut e,
         &mut h,
         &mut media,

@@ -12,7 +12,7 @@ use lib.Seq.{drop-drop, drop-cons}
 use Rattle.codec.specs.Bytes.{bytesFit}
 use Rattle.codec.specs.Frame.{frameFault, badRecord}
 use Rattle.codec.proofs.Lists.{every-of, every-drop}
-use Rattle.codec.proofs.Row.{nums-fit, fit-at}
+use Rattle.codec.proofs.Row.{fit-at}
 use Rattle.codec.proofs.Framed.{frame-room}
 use Rattle.cells.specs.Cells.{joined, row}
 use Rattle.cells.specs.Reading.{length-row}
@@ -28,14 +28,14 @@ use Rattle.grid.specs.Inner.Sound.{Sound}
 use Rattle.grid.specs.Stores.{storeLengths, orElse}
 use Rattle.grid.proofs.Judging.{sound}
 use Rattle.grid.proofs.Tests.{and-right, first-none, or-none, or-stays, or-goes}
-use Rattle.heads.specs.Numbers.{ghWidths, ghLength, ghFine, ghOf, mlLength, mlFine}
-use Rattle.heads.specs.Payloads.{headOf, countOf, entryOf, entryAt}
-use Rattle.heads.proofs.Whole.{gh-total}
+use Rattle.heads.specs.Numbers.{ghWidths, ghFine, ghOf, mlLength, mlFine}
+use Rattle.heads.specs.Payloads.{headBy, countOf, entryOf, entryAt}
 use Rattle.heads.proofs.Listed.{entry-at}
 use Rattle.format.specs.Records.{Expected, expected, recordFault, recordsFault, trailing}
 use Rattle.format.specs.Save.{markCM, markFE, markFH, markLE, markLH, markLT, markPP, markAX}
-use Rattle.format.specs.Rewind.{saveHead, bare, headGood, headRecord, listRecord, idsRecord, floatsRecord, storeRecords, table, tableOf, bytesFault}
-use Rattle.saves.specs.Inner.Places.{listPlace, passedBy, judgedAt, floatRecords, Few, Small}
+use Rattle.format.specs.Rewind.{isOld, sizeBy, bare, headGood, headRecord, listRecord, idsRecord, floatsRecord, storeRecords, table, tableBy, bytesFault}
+use Rattle.format.proofs.Old.{fit-by}
+use Rattle.saves.specs.Inner.Places.{listFrom, passedBy, judgedAt, floatRecords, Few, Small}
 
 -- ---- one record at a place
 module _ (e : Expected) (b : List ℕ) (at f : ℕ) (p : f ≡ frameFault (e .mark) (e .size) (drop at b)) where
@@ -121,27 +121,30 @@ module _ (e : Expected) (b : List ℕ) (at : ℕ) (t : Taken) (own : t ≡ judge
     walk-room l = omega (arith, fine .2, record-left e b at 0 (fine .0) refl l)
 
 -- ---- GH
-pub steps-small : (b : List ℕ) → listPlace ≤ length b → ((i : ℕ) → getD b i 0 < 256) → getD (saveHead b) 25 0 ≤ 4294967295
-steps-small b e h =
+pub steps-small : (old : Bool) (b : List ℕ) → listFrom old ≤ length b → ((i : ℕ) → getD b i 0 < 256) → getD (headBy old (drop 6 b)) 25 0 ≤ 4294967295
+steps-small old b e h =
     let bytes : T (bytesFit (drop 6 b)) = every-drop _ 6 b (every-of (λ x. ltb x 256) b 0 (λ i _. lt→ltb (getD b i 0) 256 (h i))) in
-    let small : getD (saveHead b) 25 0 < 256 ^ 4 = fit-at ghWidths (saveHead b) 25 (nums-fit ghWidths (drop 6 b) (omega (arith, gh-total, length-drop 6 b, e)) bytes) (omega arith) in
+    let small : getD (headBy old (drop 6 b)) 25 0 < 256 ^ 4 = fit-at ghWidths (headBy old (drop 6 b)) 25 (fit-by old (drop 6 b) (omega (arith, length-drop 6 b, e)) bytes) (omega arith) in
     omega arith
 
-module _ (b : List ℕ) (f : ℕ) (p : f ≡ recordFault headRecord b) (h : f ≡ 0) where
-  pub head-room : listPlace ≤ length b
-  head-room = omega (arith, record-left headRecord b 0 f p h (omega arith))
+module _ (old : Bool) (b : List ℕ) (f : ℕ) (p : f ≡ recordFault (headRecord old) b) (h : f ≡ 0) where
+  abbrev own-head : List ℕ
+  own-head = headBy old (drop 6 b)
 
-  head-none : faultOf (bare (saveHead b)) ≡ 0
+  pub head-room : listFrom old ≤ length b
+  head-room = omega (arith, record-left (headRecord old) b 0 f p h (omega arith))
+
+  head-none : faultOf (bare own-head) ≡ 0
   unfolding recordFault headGood
   head-none =
-      let z = or-none (frameFault (headRecord .mark) ghLength b) _ (sym p ∙ h) in
-      let t = first-none (headGood (saveHead b)) 14 0 (z .1) .0 in
-      eqb-true _ _ (and-right (ghFine (saveHead b)) (eqb (faultOf (bare (saveHead b))) 0) t)
+      let z = or-none (frameFault (headRecord old .mark) (sizeBy old) b) _ (sym p ∙ h) in
+      let t = first-none (headGood own-head) 14 0 (z .1) .0 in
+      eqb-true _ _ (and-right (ghFine own-head) (eqb (faultOf (bare own-head)) 0) t)
 
-  pub head-sound : Sound (bare (saveHead b))
-  head-sound = sound (bare (saveHead b)) head-none
+  pub head-sound : Sound (bare (headBy old (drop 6 b)))
+  head-sound = sound (bare own-head) head-none
 
-  pub head-count : countOf (saveHead b) ≤ 16
+  pub head-count : countOf (headBy old (drop 6 b)) ≤ 16
   unfolding bare ghOf
   head-count = head-sound .materials
 
@@ -232,36 +235,41 @@ pub few-materials : (g : List ℕ) → faultOf (bare g) ≡ 0 → countOf g ≤ 
 unfolding bare ghOf
 few-materials g ok = sound (bare g) ok .materials
 
-module _ (b : List ℕ) (t : Taken) (own : t ≡ judgedAt headRecord b 0) where
+module _ (old : Bool) (b : List ℕ) (which : old ≡ isOld b) (t : Taken) (own : t ≡ judgedAt (headRecord old) b 0) where
+  as-told : recordsFault (tableBy old (headBy old (drop 6 b))) b ≡ bytesFault b
+  unfolding bytesFault
+  as-told = ap (λ (o : Bool). recordsFault (tableBy o (headBy o (drop 6 b))) b) which
+
   pub bytes-head : (f : ℕ) → t ≡ Fault f → f ≡ bytesFault b
-  unfolding bytesFault tableOf table
-  bytes-head f h = walk-stays headRecord b 0 t own _ f h
+  unfolding tableBy table
+  bytes-head f h = walk-stays (headRecord old) b 0 t own _ f h ∙ as-told
 
   module _ (p q : ℕ) (h : t ≡ At p q) where
-    judged : 0 ≡ recordFault headRecord b
+    judged : 0 ≡ recordFault (headRecord old) b
     unfolding judgedAt
-    judged = by-start (recordFault headRecord b) 0 ghLength p q (sym own ∙ h) .0
+    judged = by-start (recordFault (headRecord old) b) 0 (sizeBy old) p q (sym own ∙ h) .0
 
     starts : p ≡ 6
     unfolding judgedAt
-    starts = by-start (recordFault headRecord b) 0 ghLength p q (sym own ∙ h) .1
+    starts = by-start (recordFault (headRecord old) b) 0 (sizeBy old) p q (sym own ∙ h) .1
 
-    pub head-place : p + ghLength ≤ length b
-    head-place = omega (arith, starts, head-room b 0 judged refl)
+    pub head-place : p + sizeBy old ≤ length b
+    head-place = omega (arith, starts, head-room old b 0 judged refl)
 
-    module _ (g : List ℕ) (read : g ≡ headOf (drop p b)) where
-      head-own : g ≡ saveHead b
-      head-own = read ∙ ap (λ (i : ℕ). headOf (drop i b)) starts
+    module _ (g : List ℕ) (read : g ≡ headBy old (drop p b)) where
+      head-own : g ≡ headBy old (drop 6 b)
+      head-own = read ∙ ap (λ (i : ℕ). headBy old (drop i b)) starts
 
       pub head-fits : ((i : ℕ) → getD b i 0 < 256) → (q ≤ length b) × (getD g 25 0 ≤ 4294967295) × (faultOf (bare g) ≡ 0)
       head-fits small = (
-        walk-room headRecord b 0 t own p q h (omega arith),
-        subst (λ (x : List ℕ). getD x 25 0 ≤ 4294967295) (sym head-own) (steps-small b (head-room b 0 judged refl) small),
-        subst (λ (x : List ℕ). faultOf (bare x) ≡ 0) (sym head-own) (head-none b 0 judged refl),
+        walk-room (headRecord old) b 0 t own p q h (omega arith),
+        subst (λ (x : List ℕ). getD x 25 0 ≤ 4294967295) (sym head-own) (steps-small old b (head-room old b 0 judged refl) small),
+        subst (λ (x : List ℕ). faultOf (bare x) ≡ 0) (sym head-own) (head-none old b 0 judged refl),
       )
 
       pub bytes-rest : (k : ℕ) → k ≡ recordsFault (listRecord g ∷ storeRecords (storeLengths (bare g))) (drop q b) → k ≡ bytesFault b
-      unfolding bytesFault tableOf table
+      unfolding tableBy table
       bytes-rest k w =
-          walk-goes headRecord b 0 t own p q h (listRecord g ∷ storeRecords (storeLengths (bare g))) k w
-          ∙ ap (λ (x : List ℕ). recordsFault (headRecord ∷ listRecord x ∷ storeRecords (storeLengths (bare x))) b) head-own
+          walk-goes (headRecord old) b 0 t own p q h (listRecord g ∷ storeRecords (storeLengths (bare g))) k w
+          ∙ ap (λ (x : List ℕ). recordsFault (headRecord old ∷ listRecord x ∷ storeRecords (storeLengths (bare x))) b) head-own
+          ∙ as-told

@@ -2,6 +2,7 @@
 use Prim.Native.Nat.{ℕ, zero, suc, _+_, _*_, _≤_, _<_}
 use native.Mathlib.Omega.{arith}
 use mathlib.Core.Path.{_≡_, refl, sym, ap, _∙_, subst}
+use mathlib.Core.Bool.{Bool}
 use mathlib.Core.List.{List, [], _∷_}
 use lib.Dec.{T, ltb, lt→ltb}
 use lib.ListN.{length, getD, drop}
@@ -17,15 +18,14 @@ use Rattle.grid.proofs.Settled.{turned-down, taken-up, with-none}
 use Rattle.grid.proofs.Judging.{sound}
 use Rattle.grid.proofs.Tests.{or-none, or-stays}
 use Rattle.heads.specs.Numbers.{ghOf}
-use Rattle.heads.specs.Payloads.{countOf, materialsOf, recordOf}
+use Rattle.heads.specs.Payloads.{headBy, countOf, materialsOf, recordOf}
 use Rattle.format.specs.Records.{Expected, recordFault, recordsFault, payloadFrom}
 use Rattle.format.specs.Save.{saveLength}
-use Rattle.format.specs.Rewind.{saveHead, bare, headRecord, listRecord, table, tableOf, bytesFault, payloadOf, readRecord, readStores, rewindFault, rewindCall}
-use Rattle.saves.specs.Inner.Places.{listPlace, entriesPlace, storesPlace, storesAt}
-use Rattle.format.proofs.Written.{save-long}
+use Rattle.format.specs.Rewind.{isOld, saveHead, bare, headRecord, listRecord, table, tableBy, tableOf, bytesFault, payloadOf, readRecord, readStores, rewindFault, rewindCall}
+use Rattle.saves.specs.Inner.Places.{listFrom, entriesFrom, storesFrom, storesAt}
 use Rattle.format.proofs.Bare.{bare-lengths}
 use Rattle.format.proofs.Back.{nine-same}
-use Rattle.format.proofs.Again.{read-none, read-lengths, bytes-again}
+use Rattle.format.proofs.Again.{read-none, read-long}
 use Rattle.saves.proofs.Judged.{head-room, head-count, record-left}
 use Rattle.saves.proofs.Called.{RoomFor, roomy}
 
@@ -34,24 +34,43 @@ all-bytes b h = every-of (λ x. ltb x 256) b 0 (λ i _. lt→ltb (getD b i 0) 25
 
 -- ---- GH and ML
 module _ (b : List ℕ) (ok : bytesFault b ≡ 0) where
-  parts : (recordFault headRecord b ≡ 0) × (recordFault (listRecord (saveHead b)) (drop listPlace b) ≡ 0)
-  unfolding bytesFault tableOf table recordsFault
+  parts : (recordFault (headRecord (isOld b)) b ≡ 0) × (recordFault (listRecord (saveHead b)) (drop (listFrom (isOld b)) b) ≡ 0)
+  unfolding bytesFault tableBy table recordsFault
   parts =
-      let z = or-none (recordFault headRecord b) _ ok in
-      (z .0, or-none (recordFault (listRecord (saveHead b)) (drop listPlace b)) _ (z .1) .0)
+      let z = or-none (recordFault (headRecord (isOld b)) b) _ ok in
+      (z .0, or-none (recordFault (listRecord (saveHead b)) (drop (listFrom (isOld b)) b)) _ (z .1) .0)
 
-  pub gh-room : listPlace ≤ length b
-  gh-room = head-room b 0 (sym (parts .0)) refl
+  pub gh-room : listFrom (isOld b) ≤ length b
+  gh-room = head-room (isOld b) b 0 (sym (parts .0)) refl
 
   pub ml-few : countOf (saveHead b) ≤ 16
-  ml-few = head-count b 0 (sym (parts .0)) refl
+  ml-few = head-count (isOld b) b 0 (sym (parts .0)) refl
 
-  pub ml-room : storesPlace (countOf (saveHead b)) ≤ length b
-  ml-room = omega (arith, record-left (listRecord (saveHead b)) b listPlace 0 (sym (parts .1)) refl gh-room)
+  pub ml-room : storesFrom (isOld b) (countOf (saveHead b)) ≤ length b
+  ml-room = omega (arith, record-left (listRecord (saveHead b)) b (listFrom (isOld b)) 0 (sym (parts .1)) refl gh-room)
 
-pub record-read : (b : List ℕ) → recordOf (saveHead b) (drop entriesPlace b) ≡ readRecord b
-unfolding readRecord tableOf table payloadFrom
-record-read b = ap (recordOf (saveHead b)) (sym (drop-drop 6 listPlace b))
+  -- the same where code asked which length GH has
+  module _ (old : Bool) (which : old ≡ isOld b) where
+    pub gh-there : listFrom old ≤ length b
+    gh-there = subst (λ (o : Bool). listFrom o ≤ length b) (sym which) gh-room
+
+    pub ml-there : (g : List ℕ) → g ≡ headBy old (drop 6 b) → (storesFrom old (countOf g) ≤ length b) × (countOf g ≤ 16)
+    ml-there g e =
+        let same : g ≡ saveHead b = e ∙ ap (λ (o : Bool). headBy o (drop 6 b)) which in (
+          subst (λ (o : Bool). storesFrom o (countOf g) ≤ length b) (sym which) (subst (λ (x : List ℕ). storesFrom (isOld b) (countOf x) ≤ length b) (sym same) ml-room),
+          subst (λ (x : List ℕ). countOf x ≤ 16) (sym same) ml-few,
+        )
+
+pub record-read : (b : List ℕ) → recordOf (saveHead b) (drop (entriesFrom (isOld b)) b) ≡ readRecord b
+unfolding readRecord tableBy table payloadFrom
+record-read b = ap (recordOf (saveHead b)) (sym (drop-drop 6 (listFrom (isOld b)) b))
+
+pub record-there : (b : List ℕ) (old : Bool) (g : List ℕ) (at : ℕ) → old ≡ isOld b → g ≡ headBy old (drop 6 b) → at ≡ entriesFrom old → recordOf g (drop at b) ≡ readRecord b
+record-there b old g at which e p =
+    ap (λ (x : List ℕ). recordOf x (drop at b)) e
+    ∙ ap (λ (k : ℕ). recordOf (headBy old (drop 6 b)) (drop k b)) p
+    ∙ ap (λ (o : Bool). recordOf (headBy o (drop 6 b)) (drop (entriesFrom o) b)) which
+    ∙ record-read b
 
 -- ---- the stores
 placeOf : List Expected → ℕ → ℕ
@@ -87,15 +106,15 @@ module _ (b : List ℕ) where
   n = storeLengths (bare (saveHead b))
 
   abbrev at : ℕ
-  at = storesPlace (countOf (saveHead b))
+  at = storesFrom (isOld b) (countOf (saveHead b))
 
-  place : (i k : ℕ) → i < 11 → placeOf (tableOf (saveHead b)) i ≡ k → drop k b ≡ payloadOf b i
-  unfolding tableOf table
-  place i k h e = sym (at-place (tableOf (saveHead b)) i b h ∙ ap (λ (j : ℕ). drop j b) e)
+  place : (i k : ℕ) → i < 11 → placeOf (tableOf b) i ≡ k → drop k b ≡ payloadOf b i
+  unfolding tableBy table
+  place i k h e = sym (at-place (tableOf b) i b h ∙ ap (λ (j : ℕ). drop j b) e)
 
   -- the stores that a save says, where code looks for them
   pub stores-read : storesAt n b at ≡ readStores b
-  unfolding storesAt readStores placeOf tableOf table
+  unfolding storesAt readStores placeOf tableBy table
   stores-read =
       nine-same _ _ _ _ _ _ _ _ _ _ _ _ _ _ _ _ _ _
       (ap (floatsOf (n .electric)) (place 4 (at + (18 + 4 * n .ids + 8 * n .media)) (omega arith) (omega arith)))
@@ -145,21 +164,23 @@ module _ (standing : Record) (s : Stores) (b : List ℕ) (f : ℕ) (p : f ≡ by
         fit : lengthsOf s ≡ storeLengths (readRecord b)
         fit = with-none r (lengthsOf s) (sym q ∙ z) .1 ∙ ap storeLengths own
 
-        long : length b ≡ saveLength (readRecord b)
-        long = ap length (sym (bytes-again b bytes none)) ∙ save-long (readRecord b) (readStores b) (read-lengths b bytes none)
+        room : RoomFor r s (saveLength (readRecord b))
+        room =
+            subst (λ (t : Record). RoomFor t s (saveLength (readRecord b))) (sym own)
+            (roomy (readRecord b) s (saveLength (readRecord b)) (saveLength (readRecord b)) (sound (readRecord b) (read-none b bytes none)) fit refl (omega arith))
 
         -- the bytes are enough for what is read from them
-        pub rewind-room : RoomFor r s (length b)
-        rewind-room =
-            subst (λ (t : Record). RoomFor t s (length b)) (sym own)
-            (roomy (readRecord b) s (length b) (length b) (sound (readRecord b) (read-none b bytes none)) fit long (omega arith))
+        pub rewind-room : (at : ℕ) → at ≡ storesFrom (isOld b) (r .«material_count») →
+            at + (54 + 4 * length (s .ids) + 8 * length (s .media) + 8 * length (s .electric) + 8 * length (s .magnetic) + 8 * length (s .psiE) + 8 * length (s .psiH) + 8 * length (s .tables) + 8 * length (s .poles) + 8 * length (s .aux)) ≤ length b
+        rewind-room at e = omega (arith, e, room .all, read-long b bytes none)
 
-        pub rewind-done : (t : Stores) → t ≡ storesAt (lengthsOf s) b (storesPlace (r .«material_count»)) → outcome 0 r t ≡ rewindCall standing s b
+        pub rewind-done : (t : Stores) (at : ℕ) → at ≡ storesFrom (isOld b) (r .«material_count») → t ≡ storesAt (lengthsOf s) b at → outcome 0 r t ≡ rewindCall standing s b
         unfolding rewindCall readRecord
-        rewind-done t e =
+        rewind-done t at f e =
             let lengths : lengthsOf s ≡ storeLengths (bare (saveHead b)) = fit ∙ sym (bare-lengths (saveHead b) (materialsOf (countOf (saveHead b)) (payloadOf b 1))) in
             taken-up k (rewindFault b (lengthsOf s)) standing r (readRecord b) s t (readStores b) fault-is z own
             (e
-            ∙ ap (λ (l : Lengths). storesAt l b (storesPlace (r .«material_count»))) lengths
-            ∙ ap (λ (c : ℕ). storesAt (storeLengths (bare (saveHead b))) b (storesPlace c)) count-own
+            ∙ ap (storesAt (lengthsOf s) b) f
+            ∙ ap (λ (l : Lengths). storesAt l b (storesFrom (isOld b) (r .«material_count»))) lengths
+            ∙ ap (λ (c : ℕ). storesAt (storeLengths (bare (saveHead b))) b (storesFrom (isOld b) c)) count-own
             ∙ stores-read b)

@@ -4,21 +4,42 @@ ghost use Prim.Native.Nat.{_+_, _*_, _≤_};
 ghost use lib.ListN.{length, drop};
 ghost use Rattle.codec.specs.Bytes.{floatsOf, idsOf};
 ghost use Rattle.grid.specs.Stores.{stores, lengthsOf};
-ghost use Rattle.format.specs.Rewind.{bytesFault, readRecord};
-ghost use Rattle.saves.specs.Inner.Places.{storesAt};
+ghost use Rattle.format.specs.Rewind.{isOld, bytesFault, readRecord};
+ghost use Rattle.saves.specs.Inner.Places.{entriesFrom, storesFrom, storesAt};
+use crate::judge;
 use crate::puts::ENTRIES_PLACE;
 use codec::stores;
 use grid::Record;
+use heads::ML_LENGTH;
+use heads::OLD_LENGTH;
 use heads::entries;
-use heads::payloads;
+
+// Where the materials begin, behind the six bytes of their record and GH's.
+fn entries_from(old: bool) -> usize
+    ensures { λ n. ⌜ (n ≡ entriesFrom old) × (n ≤ 86) ⌝ }
+{
+    if old { OLD_LENGTH + 12 } else { ENTRIES_PLACE }
+}
 
 pub fn get_record(b: &[u8]) -> Record
     requires { ⌜ bytesFault (now b) ≡ 0 ⌝ }
     ensures { λ r. ⌜ r ≡ readRecord (now (b .entry)) ⌝ }
 {
-    let g = payloads::get_gh(b, 6);
-    let materials = entries::get_materials(b, ENTRIES_PLACE, g[12] as usize);
+    let old = judge::is_old(b);
+    let g = judge::head_at(b, 6, old);
+    let at = entries_from(old);
+    let materials = entries::get_materials(b, at, g[12] as usize);
     heads::gh_of(g, materials)
+}
+
+// Where the records of the stores begin.
+pub fn stores_from(b: &[u8], materials: usize) -> usize
+    requires { ⌜ materials ≤ 16 ⌝ }
+    ensures { λ n. ⌜ (n ≡ storesFrom (isOld (now (b .entry))) materials) × (n ≤ 2086) ⌝ }
+{
+    let old = judge::is_old(b);
+    let at = entries_from(old);
+    at + ML_LENGTH * materials
 }
 
 // CI, CM, FE, FH; the place after them.

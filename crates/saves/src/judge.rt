@@ -4,14 +4,15 @@ ghost use mathlib.Core.List.{_∷_};
 ghost use Prim.Native.Nat.{_+_, _*_, _≤_, _<_};
 ghost use lib.ListN.{length, drop, getD};
 ghost use Rattle.heads.specs.Numbers.{mlLength, mlFine};
-ghost use Rattle.heads.specs.Payloads.{countOf, entryAt};
+ghost use Rattle.heads.specs.Payloads.{headBy, countOf, entryAt};
 ghost use Rattle.grid.specs.Fault.{allBelow, faultOf};
 ghost use Rattle.grid.specs.Stores.{storeLengths};
 ghost use Rattle.format.specs.Records.{recordsFault};
-ghost use Rattle.format.specs.Rewind.{bare, headGood, listGood, headRecord, listRecord, idsRecord, floatsRecord, storeRecords, bytesFault};
+ghost use Rattle.format.specs.Rewind.{isOld, sizeBy, bare, headGood, listGood, headRecord, listRecord, idsRecord, floatsRecord, storeRecords, bytesFault};
 ghost use Rattle.saves.specs.Inner.Places.{passedBy, judgedAt, floatRecords, Few, Small};
 use crate::puts;
 use codec::frame;
+use codec::numbers;
 use codec::stores;
 use dispersion::DispersiveMaterial;
 use frames::Taken;
@@ -20,13 +21,45 @@ use grid::fault;
 use grid::stores::Lengths;
 use heads::GH_LENGTH;
 use heads::ML_LENGTH;
+use heads::OLD_LENGTH;
 use heads::entries;
 use heads::payloads;
 
 pub const TRAILING: u32 = 16;
 
+// Whether these bytes are a save from before the constants: the length field of the first record says 73.
+pub fn is_old(b: &[u8]) -> bool
+    ensures { λ t. ⌜ t ≡ isOld (now (b .entry)) ⌝ }
+{
+    if b.len() < 6 {
+        return false;
+    }
+    numbers::get_u32(b, 2) == OLD_LENGTH as u32
+}
+
+fn size_by(old: bool) -> u32
+    ensures { λ n. ⌜ n ≡ sizeBy old ⌝ }
+{
+    if old {
+        OLD_LENGTH as u32
+    } else {
+        GH_LENGTH as u32
+    }
+}
+
+// GH's numbers at either length.
+pub fn head_at(b: &[u8], at: usize, old: bool) -> [u64; 27]
+    requires { ⌜ at + sizeBy old ≤ length (now b) ⌝ }
+    ensures { λ n. ⌜ n ≡ headBy old (drop at (now (b .entry))) ⌝ }
+{
+    if old {
+        return payloads::get_old_gh(b, at);
+    }
+    payloads::get_gh(b, at)
+}
+
 // The record that GH alone says: each material vacuum.
-fn bare_record(g: [u64; 26]) -> Record
+fn bare_record(g: [u64; 27]) -> Record
     requires { ⌜ getD g 25 0 ≤ 4294967295 ⌝ }
     ensures { λ r. ⌜ r ≡ bare g ⌝ }
 {
@@ -35,7 +68,7 @@ fn bare_record(g: [u64; 26]) -> Record
     heads::gh_of(g, materials)
 }
 
-fn head_good(g: [u64; 26]) -> bool
+fn head_good(g: [u64; 27]) -> bool
     requires { ⌜ getD g 25 0 ≤ 4294967295 ⌝ }
     ensures { λ t. ⌜ t ≡ headGood g ⌝ }
 {
@@ -53,13 +86,14 @@ fn passed(good: bool, start: usize, next: usize) -> Taken
     Taken::Fault(frame::BAD_RECORD)
 }
 
-fn take_head(b: &[u8]) -> Taken
-    ensures { λ t. ⌜ t ≡ judgedAt headRecord (now (b .entry)) 0 ⌝ }
+fn take_head(b: &[u8], old: bool) -> Taken
+    ensures { λ t. ⌜ t ≡ judgedAt (headRecord old) (now (b .entry)) 0 ⌝ }
 {
-    match frames::take_at(b, 0, puts::GH, GH_LENGTH as u32) {
+    let n = size_by(old);
+    match frames::take_at(b, 0, puts::GH, n) {
         Taken::Fault(f) => Taken::Fault(f),
         Taken::At { start, next } => {
-            let g = payloads::get_gh(b, start);
+            let g = head_at(b, start, old);
             passed(head_good(g), start, next)
         }
     }
@@ -81,7 +115,7 @@ fn entries_fine(b: &[u8], at: usize, count: usize) -> bool
     true
 }
 
-fn list_good(b: &[u8], at: usize, g: [u64; 26]) -> bool
+fn list_good(b: &[u8], at: usize, g: [u64; 27]) -> bool
     requires { ⌜ (at + mlLength * countOf g ≤ length (now b)) × (countOf g ≤ 16) × (getD g 25 0 ≤ 4294967295) ⌝ }
     ensures { λ t. ⌜ t ≡ listGood g (drop at (now (b .entry))) ⌝ }
 {
@@ -91,7 +125,7 @@ fn list_good(b: &[u8], at: usize, g: [u64; 26]) -> bool
     entries_fine(b, at, count) & (fault::fault_of(r) == 0)
 }
 
-fn take_list(b: &[u8], at: usize, g: [u64; 26]) -> Taken
+fn take_list(b: &[u8], at: usize, g: [u64; 27]) -> Taken
     requires { ⌜ (at ≤ length (now b)) × (countOf g ≤ 16) × (getD g 25 0 ≤ 4294967295) ⌝ }
     ensures { λ t. ⌜ t ≡ judgedAt (listRecord g) (now (b .entry)) at ⌝ }
 {
@@ -173,7 +207,7 @@ fn stores_fault(b: &[u8], at: usize, n: Lengths) -> u32
 }
 
 // What follows GH, whose numbers are g.
-fn rest_fault(b: &[u8], at: usize, g: [u64; 26]) -> u32
+fn rest_fault(b: &[u8], at: usize, g: [u64; 27]) -> u32
     requires { ⌜ (at ≤ length (now b)) × (getD g 25 0 ≤ 4294967295) × (faultOf (bare g) ≡ 0) ⌝ }
     ensures { λ f. ⌜ f ≡ recordsFault (listRecord g ∷ storeRecords (storeLengths (bare g))) (drop at (now (b .entry))) ⌝ }
 {
@@ -189,10 +223,11 @@ fn rest_fault(b: &[u8], at: usize, g: [u64; 26]) -> u32
 pub fn bytes_fault(b: &[u8]) -> u32
     ensures { λ f. ⌜ f ≡ bytesFault (now (b .entry)) ⌝ }
 {
-    match take_head(b) {
+    let old = is_old(b);
+    match take_head(b, old) {
         Taken::Fault(f) => f,
         Taken::At { start, next } => {
-            let g = payloads::get_gh(b, start);
+            let g = head_at(b, start, old);
             rest_fault(b, next, g)
         }
     }

@@ -8,13 +8,11 @@ ghost use Rattle.grid.specs.Stores.{stores, outcome};
 ghost use Rattle.grid.specs.Inner.Sound.{Sound};
 ghost use Rattle.format.specs.Save.{saveLength, lengthCall, saveCall};
 ghost use Rattle.format.specs.Rewind.{rewindCall};
-use crate::puts::ENTRIES_PLACE;
 use grid::Answer;
 use grid::Record;
 use grid::fault;
 use grid::stores;
 use grid::stores::Lengths;
-use heads::ML_LENGTH;
 
 pub const NO_ROOM: u32 = 12;
 
@@ -30,7 +28,7 @@ fn length_of(r: Record) -> usize
     ensures { λ n. ⌜ n ≡ saveLength r ⌝ }
 {
     let n = r.nx * r.ny * r.nz;
-    907
+    908
         + 125 * r.material_count
         + 196 * n
         + 48 * (r.pole_slots * n)
@@ -145,7 +143,7 @@ pub fn rewind(
             study: standing,
         };
     }
-    let at = ENTRIES_PLACE + ML_LENGTH * r.material_count;
+    let at = gets::stores_from(b, r.material_count);
     gets::get_stores(b, at, e, h, media, psi_e, psi_h, tables, poles, aux, ids);
     Answer {
         refusal: 0,

@@ -46,7 +46,7 @@ pub const PP: u16 = 0x5050;
 pub const AX: u16 = 0x5841;
 
 // Where ML's record begins, behind GH's, and where its materials do.
-pub const LIST_PLACE: usize = 6 + GH_LENGTH;
+const LIST_PLACE: usize = 6 + GH_LENGTH;
 
 pub const ENTRIES_PLACE: usize = LIST_PLACE + 6;
 

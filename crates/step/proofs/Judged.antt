@@ -12,8 +12,8 @@ use borrow.Author.Tests.{ltb-true, leb-true, leb-false, le-leb, lt-leb, ne-eqb}
 use Rattle.codec.specs.Lists.{every}
 use Rattle.grid.specs.declared.Record.{Record}
 use Rattle.grid.specs.declared.stores.Lengths.{Lengths}
-use Rattle.grid.specs.Fault.{faultOf, sizeFits, spacingsFit, studyFits, countsFit, polesFit, layerFits, regionFits, cornersFit, isAbsent, poleCount}
-use Rattle.grid.specs.Limits.{maxPoleSlots, maxMaterials}
+use Rattle.grid.specs.Fault.{faultOf, sizeFits, spacingsFit, studyFits, openedFit, countsFit, polesFit, layerFits, regionFits, cornersFit, isAbsent, poleCount}
+use Rattle.grid.specs.Limits.{maxMaterials}
 use Rattle.grid.specs.Stores.{Stores, lengthsOf, storeLengths, cells, faultWith, faultLent}
 use Rattle.grid.proofs.Tests.{and-left, and-right, first-none, or-none}
 use Rattle.grid.proofs.Settled.{with-none}
@@ -78,7 +78,7 @@ unfolding studyFits countsFit
 built-of r e =
     let layer = layerFits (r .active) (r .«layer_on») in
     let region = regionFits (r .region) (r .nx) (r .ny) (r .nz) in
-    let three = leb (r .«pole_slots») maxPoleSlots && leb 1 (r .«material_count») && leb (r .«material_count») maxMaterials in
+    let three = openedFit r && leb 1 (r .«material_count») && leb (r .«material_count») maxMaterials in
     let built = leb (r .«built_count») (r .«material_count») in
     let none = eqb (poleCount r 0) 0 in
     let counts = and-left (three && built && none) (polesFit r) (and-left (three && built && none && polesFit r) layer (and-left (three && built && none && polesFit r && layer) region e)) in

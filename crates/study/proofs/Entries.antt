@@ -9,10 +9,10 @@ use lib.Ieee.{Float}
 use Rattle.codec.specs.Lists.{put}
 use Rattle.codec.specs.Bytes.{bytesFit}
 use Rattle.root.specs.Rounded.{zeroF}
-use Rattle.root.specs.Constants.{eps0, mu0, c0}
 use Rattle.cells.specs.declared.IndexBox.{IndexBox}
 use Rattle.grid.specs.declared.Record.{Record}
 use Rattle.grid.specs.Edited.{withClock}
+use Rattle.grid.specs.Vacuum.{epsOf, muOf, lightOf}
 use Rattle.grid.specs.Stores.{Stores, stores, Outcome, lengthsOf}
 use Rattle.opening.specs.Layer.{Layer, layer}
 use Rattle.materials.specs.Materials.{setMaterialCall, placed, assignBoxCall, halfspace, buildCall}
@@ -153,11 +153,11 @@ module _ (b b' : List ℕ) (n : ℕ) where
   «cichowiej_box_region» i0 i1 j0 j1 k0 k1 aux aux' e w v p q r s = silently (boxRegion i0 i1 j0 j1 k0 k1) tt refl (λ x. refl) n aux' w v (rw (p, q, r) e) s
 
   -- ---- steps: media, tables and ids are lent to be read, and stand in t' as in t
-  pub «cichowiej_step» : (x : Float) (t t' : Stores) → SaidAct (step x) → sent n b' t' ≡ clockOnBlock (λ r. stepCall eps0 mu0 c0 r x t) b t
+  pub «cichowiej_step» : (x : Float) (t t' : Stores) → SaidAct (step x) → sent n b' t' ≡ clockOnBlock (λ r. stepCall (epsOf r) (muOf r) (lightOf r) r x t) b t
       → Silently b b' (λ s. s ≡ t) (λ s. t') (doing (step x)) n
   «cichowiej_step» x t t' said e w v p q r s = moving (step x) said refl (λ z. refl) n t' w v (rw (p, q, r) e) s (λ z. moves x [] z (w .kept) .0)
 
-  pub «cichowiej_run» : (xs : List Float) (t t' : Stores) → SaidAct (run xs) → sent n b' t' ≡ clockOnBlock (λ r. runCall eps0 mu0 c0 r xs t) b t
+  pub «cichowiej_run» : (xs : List Float) (t t' : Stores) → SaidAct (run xs) → sent n b' t' ≡ clockOnBlock (λ r. runCall (epsOf r) (muOf r) (lightOf r) r xs t) b t
       → Silently b b' (λ s. s ≡ t) (λ s. t') (doing (run xs)) n
   «cichowiej_run» xs t t' said e w v p q r s = moving (run xs) said refl (λ z. refl) n t' w v (rw (p, q, r) e) s (λ z. moves zeroF xs z (w .kept) .1)
 
@@ -168,11 +168,11 @@ module _ (b b' : List ℕ) (n : ℕ) where
 
 -- ---- what leaves the block
 module _ (b : List ℕ) (n : ℕ) where
-  pub «cichowiej_total_energy» : (e h media room room' : List Float) → readout n room' ≡ readBlock (λ r. answering (energyCall eps0 mu0 r e h media) room) b (answered zeroF room)
+  pub «cichowiej_total_energy» : (e h media room room' : List Float) → readout n room' ≡ readBlock (λ r. answering (energyCall (epsOf r) (muOf r) r e h media) room) b (answered zeroF room)
       → Reading b b (λ s. (s .electric ≡ e) × (s .magnetic ≡ h) × (s .media ≡ media)) (doing (totalEnergy (length room))) n room room'
   «cichowiej_total_energy» e h media room room' k w v p q r s =
       read-block w v (totalEnergy (length room)) tt (floats room) (floats room') refl (λ x. answered x room) n room' (floats (take 1 room'))
-      (λ x i. (s, float-front room room' x i, float-back room room' x i)) (told-of (λ r. answering (energyCall eps0 mu0 r (w .kept .electric) (w .kept .magnetic) (w .kept .media)) room) (answered zeroF room) p (rw (q .0, q .1, q .2) k)) (r ∙ sym p) (λ z. reads (length room) 0 z (w .kept) .0)
+      (λ x i. (s, float-front room room' x i, float-back room room' x i)) (told-of (λ r. answering (energyCall (epsOf r) (muOf r) r (w .kept .electric) (w .kept .magnetic) (w .kept .media)) room) (answered zeroF room) p (rw (q .0, q .1, q .2) k)) (r ∙ sym p) (λ z. reads (length room) 0 z (w .kept) .0)
 
   pub «cichowiej_plane_reading» : (at : ℕ) (e h room room' : List Float) → readout n room' ≡ readBlock (λ r. answering (planeCall r at e h) room) b (answered zeroF room)
       → Reading b b (λ s. (s .electric ≡ e) × (s .magnetic ≡ h)) (doing (planeReading at (length room))) n room room'
@@ -195,7 +195,7 @@ module _ (b : List ℕ) (n : ℕ) where
 
 -- ---- an opening and a rewind
 module _ (b b' : List ℕ) (n : ℕ) (t t' : Stores) where
-  pub «cichowiej_open» : (o : Opening) → SaidOpening o → sent n b' t' ≡ openOnBlock (o .nx) (o .ny) (o .nz) (o .slots) (o .spacings) b t
+  pub «cichowiej_open» : (o : Opening) → SaidOpening o → sent n b' t' ≡ openOnBlock (o .nx) (o .ny) (o .nz) (o .slots) (o .spacings) (o .constants) b t
       → Silently b b' (λ s. s ≡ t) (λ s. t') (opening o (record { block = length b; stores = lengthsOf t })) n
   «cichowiej_open» o said e w v p q r s =
       subst (λ (l : Lent). Honest engine (record { call = opening o l; handed = w; lent = nothing; reply = replyOf n nothing nothing; left = v; back = nothing })) (lent-of w b t p q)

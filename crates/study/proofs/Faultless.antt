@@ -15,7 +15,7 @@ use Rattle.grid.specs.declared.Region.{Region}
 use Rattle.grid.specs.declared.Clock.{Clock}
 use Rattle.grid.specs.declared.Record.{Record}
 use Rattle.grid.specs.Edited.{withWalls, withBuilt, withRegion}
-use Rattle.grid.specs.Fault.{beyond, poleCount, first, sizeFits, spacingsFit, allBelow, countsFit, polesFit, layerFits, isAbsent, cornersFit, regionFits, studyFits, faultOf}
+use Rattle.grid.specs.Fault.{beyond, poleCount, first, sizeFits, spacingsFit, allBelow, openedFit, countsFit, polesFit, layerFits, isAbsent, cornersFit, regionFits, studyFits, faultOf}
 use Rattle.grid.specs.Canon.{canonMaterial}
 use Rattle.grid.specs.Stores.{Stores, faultLent}
 use Rattle.grid.proofs.Tests.{and-left, and-right, first-none, or-none}
@@ -90,7 +90,7 @@ ran-whole eps0 mu0 c0 r (x ∷ xs) s e = ran-whole eps0 mu0 c0 (ticked r) xs (st
 
 -- ---- counts
 record Counts (r : Record) : Type 0 where
-  slots : r .«pole_slots» ≤ 4
+  opened : openedFit r ≡ true
   some : 1 ≤ r .«material_count»
   few : r .«material_count» ≤ 16
   built : r .«built_count» ≤ r .«material_count»
@@ -99,7 +99,7 @@ record Counts (r : Record) : Type 0 where
 counted : (r : Record) → countsFit r ≡ true → Counts r
 unfolding countsFit
 counted r e =
-    let a = leb (r .«pole_slots») 4 in
+    let a = openedFit r in
     let b = leb 1 (r .«material_count») in
     let c = leb (r .«material_count») 16 in
     let d = leb (r .«built_count») (r .«material_count») in
@@ -108,7 +108,7 @@ counted r e =
     let u = and-left (a && b && c) d t in
     let v = and-left (a && b) c u in
     record {
-      slots = leb-true (r .«pole_slots») 4 (and-left a b v);
+      opened = and-left a b v;
       some = leb-true 1 (r .«material_count») (and-right a b v);
       few = leb-true (r .«material_count») 16 (and-right (a && b) c u);
       built = leb-true (r .«built_count») (r .«material_count») (and-right (a && b && c) d t);
@@ -119,7 +119,7 @@ counts-fit : (r : Record) → Counts r → countsFit r ≡ true
 unfolding countsFit
 counts-fit r k =
     rw (
-      le-leb (r .«pole_slots») 4 (k .slots),
+      k .opened,
       le-leb 1 (r .«material_count») (k .some),
       le-leb (r .«material_count») 16 (k .few),
       le-leb (r .«built_count») (r .«material_count») (k .built),
@@ -143,7 +143,7 @@ built-whole r e =
     whole (withBuilt r (builtOf r)) (record {
       size = k .size;
       spacing = k .spacing;
-      counts = counts-fit (withBuilt r (builtOf r)) (record { slots = c .slots; some = c .some; few = c .few; built = built-low r; bare = c .bare });
+      counts = counts-fit (withBuilt r (builtOf r)) (record { opened = c .opened; some = c .some; few = c .few; built = built-low r; bare = c .bare });
       poles = k .poles;
       layer = k .layer;
       region = k .region;
@@ -196,7 +196,7 @@ module _ (r : Record) (m : DispersiveMaterial) (long : length (r .materials) ≡
         size = k .size;
         spacing = k .spacing;
         counts = counts-fit (added r m) (record {
-          slots = c .slots;
+          opened = c .opened;
           some = omega arith;
           few = omega (arith, low);
           built = omega (arith, c .built);

@@ -220,7 +220,7 @@ unfolding lentBlock
 judged-first f n e = or-none f _ e .0
 
 pub «cichowiej_open» : (w v : World) (o : Opening) → SaidOpening o → (n : ℕ)
-    → sent n (v .block) (v .kept) ≡ openOnBlock (o .nx) (o .ny) (o .nz) (o .slots) (o .spacings) (w .block) (w .kept)
+    → sent n (v .block) (v .kept) ≡ openOnBlock (o .nx) (o .ny) (o .nz) (o .slots) (o .spacings) (o .constants) (w .block) (w .kept)
     → Honest engine (record { call = opening o (lentIn w); handed = w; lent = nothing; reply = replyOf n nothing nothing; left = v; back = nothing })
 unfolding openOnBlock faultLent
 «cichowiej_open» w v o said n e =
@@ -228,8 +228,8 @@ unfolding openOnBlock faultLent
     (openedOf o) (openedOf o) (openStores (openedOf o)) refl
     (λ z. record {
       fine = or-none (faultOf (openedOf o)) _ (judged-first (faultWith (openedOf o) (lengthsOf (w .kept))) (length (w .block)) z) .0;
-      held = open-holds (o .nx) (o .ny) (o .nz) (o .slots) (o .spacings) said .held;
-      canonical = open-canon (o .nx) (o .ny) (o .nz) (o .slots) (o .spacings);
+      held = open-holds (o .nx) (o .ny) (o .nz) (o .slots) (o .spacings) (o .constants) said .held;
+      canonical = open-canon (o .nx) (o .ny) (o .nz) (o .slots) (o .spacings) (o .constants);
     }) n e
 
 pub «cichowiej_rewind» : (w v : World) (save : List ℕ) → T (bytesFit save) → (n : ℕ)
@@ -241,7 +241,7 @@ unfolding rewindOnBlock
     (readRecord save) (readRecord save) (readStores save) refl
     (λ z.
     let k = rewind-takes save (lengthsOf (w .kept)) said (judged-first (rewindFault save (lengthsOf (w .kept))) (length (w .block)) z) in
-    record { fine = k .savable .ok; held = k .savable .held; canonical = k .canonical }) n e
+    record { fine = k .said .fine; held = k .savable .held; canonical = k .said .canonical }) n e
 
 -- ---- a save
 put-none : (l : List ℕ) → put l 0 [] ≡ l

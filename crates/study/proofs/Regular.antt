@@ -9,7 +9,6 @@ use lib.Dec.{ltb, leb, eqb}
 use lib.ListN.{length}
 use lib.Ieee.{Float}
 use borrow.Author.Tests.{ltb-true}
-use Rattle.root.specs.Constants.{eps0, mu0, c0}
 use Rattle.root.specs.Rounded.{zeroF}
 use Rattle.dispersion.specs.declared.DispersiveMaterial.{DispersiveMaterial}
 use Rattle.cells.specs.declared.IndexBox.{IndexBox}
@@ -19,6 +18,7 @@ use Rattle.grid.specs.declared.stores.Lengths.{Lengths}
 use Rattle.grid.specs.Edited.{withWalls, withBuilt, withRegion, withClock}
 use Rattle.grid.specs.Fault.{first, cornersFit, layerFits, faultOf}
 use Rattle.grid.specs.Canon.{canonMaterial, canonRegion, canon}
+use Rattle.grid.specs.Vacuum.{epsOf, muOf, lightOf}
 use Rattle.grid.specs.Stores.{Stores, Outcome, outcome, settle, zeros, orElse, storeLengths, sameLengths, lengthsOf, faultLent, faultWith}
 use Rattle.grid.proofs.Canonical.{canon-fault}
 use Rattle.grid.proofs.Tests.{or-none, first-none}
@@ -329,62 +329,62 @@ unfolding stepFault
 step-fine r s n e = lent-fine r (sameLengths (lengthsOf s) (storeLengths r)) (or-none (faultWith r (lengthsOf s)) _ e .0)
 
 one-step : (x : Float) → Regular (form (step x)) 1 (SaidAct (step x))
-unfolding stepCall
+unfolding stepCall canon
 one-step x = record {
   fault = λ r s. stepFault r (lengthsOf s) (s .ids) 1;
   next = λ r s. ticked r;
-  rest = λ r s. stepped eps0 mu0 c0 r x s;
+  rest = λ r s. stepped (epsOf r) (muOf r) (lightOf r) r x s;
   is = λ r s. refl;
   idles = λ s. refl;
   silent = λ s. refl;
   fault-canon = λ r s. steps-canon r (lengthsOf s) (s .ids) 1;
   next-canon = λ r s h. ticked-kept r;
-  rest-canon = λ r s h. stepped-kept eps0 mu0 c0 r x s (known r s 1 h);
+  rest-canon = λ r s h. stepped-kept (epsOf r) (muOf r) (lightOf r) r x s (known r s 1 h);
   counts = λ r s. refl;
-  holds = λ said r s h e. record { held = held-tick r (h .held) (ready r s 1 e .1); fits = stepped-fit eps0 mu0 c0 r x s (h .fits) };
+  holds = λ said r s h e. record { held = held-tick r (h .held) (ready r s 1 e .1); fits = stepped-fit (epsOf r) (muOf r) (lightOf r) r x s (h .fits) };
   sound = λ r s h e. tick-whole r (step-fine r s 1 e);
 }
 
 -- the ids and what they are counted by stand from step to step
-known-on : (r : Record) (x : Float) (s : Stores) → Known r (s .ids) → Known (ticked r) (stepped eps0 mu0 c0 r x s .ids)
+known-on : (eps0 mu0 c0 : Float) (r : Record) (x : Float) (s : Stores) → Known r (s .ids) → Known (ticked r) (stepped eps0 mu0 c0 r x s .ids)
 unfolding stepped
-known-on r x s k = k
+known-on eps0 mu0 c0 r x s k = k
 
 abbrev canonOut : {A : Type 0} → Outcome A → Outcome A
 canonOut o = outcome (o .refusal) (canon (o .study)) (o .rest)
 
-ran-kept : (r : Record) (xs : List Float) (s : Stores) → Known r (s .ids) → ran eps0 mu0 c0 (canon r) xs s ≡ canonOut (ran eps0 mu0 c0 r xs s)
+ran-kept : (eps0 mu0 c0 : Float) (r : Record) (xs : List Float) (s : Stores) → Known r (s .ids) → ran eps0 mu0 c0 (canon r) xs s ≡ canonOut (ran eps0 mu0 c0 r xs s)
 unfolding ran
-ran-kept r [] s k = refl
-ran-kept r (x ∷ xs) s k =
-    rw (stepped-kept eps0 mu0 c0 r x s k, ticked-kept r) (ran-kept (ticked r) xs (stepped eps0 mu0 c0 r x s) (known-on r x s k))
+ran-kept eps0 mu0 c0 r [] s k = refl
+ran-kept eps0 mu0 c0 r (x ∷ xs) s k =
+    rw (stepped-kept eps0 mu0 c0 r x s k, ticked-kept r) (ran-kept eps0 mu0 c0 (ticked r) xs (stepped eps0 mu0 c0 r x s) (known-on eps0 mu0 c0 r x s k))
 
-ran-counts : (r : Record) (xs : List Float) (s : Stores) → ran eps0 mu0 c0 r xs s .study .clock .steps ≡ r .clock .steps + length xs
+ran-counts : (eps0 mu0 c0 : Float) (r : Record) (xs : List Float) (s : Stores) → ran eps0 mu0 c0 r xs s .study .clock .steps ≡ r .clock .steps + length xs
 unfolding ran
-ran-counts r [] s = nought _
-ran-counts r (x ∷ xs) s = let e = ran-counts (ticked r) xs (stepped eps0 mu0 c0 r x s) in e ∙ omega arith
+ran-counts eps0 mu0 c0 r [] s = nought _
+ran-counts eps0 mu0 c0 r (x ∷ xs) s = let e = ran-counts eps0 mu0 c0 (ticked r) xs (stepped eps0 mu0 c0 r x s) in e ∙ omega arith
 
 -- steps move the clock and nothing else of the record
-ran-clock : (r : Record) (xs : List Float) (s : Stores) → ran eps0 mu0 c0 r xs s .study ≡ withClock r (ran eps0 mu0 c0 r xs s .study .clock)
+ran-clock : (eps0 mu0 c0 : Float) (r : Record) (xs : List Float) (s : Stores) → ran eps0 mu0 c0 r xs s .study ≡ withClock r (ran eps0 mu0 c0 r xs s .study .clock)
 unfolding ran
-ran-clock r [] s = refl
-ran-clock r (x ∷ xs) s = ran-clock (ticked r) xs (stepped eps0 mu0 c0 r x s)
+ran-clock eps0 mu0 c0 r [] s = refl
+ran-clock eps0 mu0 c0 r (x ∷ xs) s = ran-clock eps0 mu0 c0 (ticked r) xs (stepped eps0 mu0 c0 r x s)
 
 many-steps : (xs : List Float) → Regular (form (run xs)) (length xs) (SaidAct (run xs))
-unfolding runCall
+unfolding runCall canon
 many-steps xs = record {
   fault = λ r s. stepFault r (lengthsOf s) (s .ids) (length xs);
-  next = λ r s. ran eps0 mu0 c0 r xs s .study;
-  rest = λ r s. ran eps0 mu0 c0 r xs s .rest;
+  next = λ r s. ran (epsOf r) (muOf r) (lightOf r) r xs s .study;
+  rest = λ r s. ran (epsOf r) (muOf r) (lightOf r) r xs s .rest;
   is = λ r s. refl;
   idles = λ s. refl;
   silent = λ s. refl;
   fault-canon = λ r s. steps-canon r (lengthsOf s) (s .ids) (length xs);
-  next-canon = λ r s h. ap (λ (o : Outcome Stores). o .study) (ran-kept r xs s (known r s (length xs) h));
-  rest-canon = λ r s h. ap (λ (o : Outcome Stores). o .rest) (ran-kept r xs s (known r s (length xs) h));
-  counts = λ r s. ran-counts r xs s;
-  holds = λ said r s h e. ran-holds r xs s h (ready r s (length xs) e .1);
-  sound = λ r s h e. ran-whole eps0 mu0 c0 r xs s (step-fine r s (length xs) e);
+  next-canon = λ r s h. ap (λ (o : Outcome Stores). o .study) (ran-kept (epsOf r) (muOf r) (lightOf r) r xs s (known r s (length xs) h));
+  rest-canon = λ r s h. ap (λ (o : Outcome Stores). o .rest) (ran-kept (epsOf r) (muOf r) (lightOf r) r xs s (known r s (length xs) h));
+  counts = λ r s. ran-counts (epsOf r) (muOf r) (lightOf r) r xs s;
+  holds = λ said r s h e. ran-holds (epsOf r) (muOf r) (lightOf r) r xs s h (ready r s (length xs) e .1);
+  sound = λ r s h e. ran-whole (epsOf r) (muOf r) (lightOf r) r xs s (step-fine r s (length xs) e);
 }
 
 -- ---- fields
@@ -410,7 +410,7 @@ unfolding energyCall energyFault energyOf storeLengths canon
 energy n = record {
   fault = λ r s. energyFault r (length (s .electric)) (length (s .magnetic)) (length (s .media));
   next = λ r s. r;
-  rest = λ r s. energyOf eps0 mu0 r (s .electric) (s .magnetic) (s .media);
+  rest = λ r s. energyOf (epsOf r) (muOf r) r (s .electric) (s .magnetic) (s .media);
   is = λ r s. refl;
   idles = λ s. refl;
   silent = λ s. refl;
@@ -492,4 +492,4 @@ reads n k r s = (refl, refl, refl)
 pub moves : (x : Float) (xs : List Float) (r : Record) (s : Stores)
     → (regular (step x) .next r s ≡ withClock r (regular (step x) .next r s .clock)) × (regular (run xs) .next r s ≡ withClock r (regular (run xs) .next r s .clock))
 unfolding regular one-step many-steps
-moves x xs r s = (refl, ran-clock r xs s)
+moves x xs r s = (refl, ran-clock (epsOf r) (muOf r) (lightOf r) r xs s)

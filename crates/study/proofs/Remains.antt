@@ -13,7 +13,6 @@ use lib.Ieee.Fits.{and-i, and-l, and-r, add-fits}
 use lib.Ieee.Bits.{ofBits-fits}
 use borrow.Author.Tests.{eqb-true, eqb-false}
 use Rattle.codec.specs.Lists.{every}
-use Rattle.root.specs.Constants.{eps0, mu0, c0}
 use Rattle.root.specs.Rounded.{zeroF}
 use Rattle.root.specs.declared.Spacings.{Spacings}
 use Rattle.dispersion.specs.declared.PoleSlot.{PoleSlot}
@@ -182,9 +181,9 @@ open-fits r =
       ids = all-replicate small (cells r) 0 tt;
     }
 
-pub open-holds : (nx ny nz slots : ℕ) (s : Spacings) → All (s .dx ∷ s .dy ∷ s .dz ∷ s .dt ∷ []) → Holding (openRecord nx ny nz slots s) (openStores (openRecord nx ny nz slots s))
+pub open-holds : (nx ny nz slots : ℕ) (s : Spacings) (c : ℕ) → All (s .dx ∷ s .dy ∷ s .dz ∷ s .dt ∷ []) → Holding (openRecord nx ny nz slots s c) (openStores (openRecord nx ny nz slots s c))
 unfolding every
-open-holds nx ny nz slots s a =
+open-holds nx ny nz slots s c a =
     let x = and-l (held (s .dx)) _ a in
     let r1 = and-r (held (s .dx)) _ a in
     let y = and-l (held (s .dy)) _ r1 in
@@ -203,7 +202,7 @@ open-holds nx ny nz slots s a =
         sixteen = refl;
         each = λ i b. replicated MaterialHeld beyond vacuumMaterial vacuum-held 16 i b;
       };
-      fits = open-fits (openRecord nx ny nz slots s);
+      fits = open-fits (openRecord nx ny nz slots s c);
     }
 
 -- ---- stores with some put anew
@@ -251,10 +250,10 @@ fit-assigned r s b id h f low =
     (ids-fit (r .nx) (r .ny) (r .nz) b id (s .ids) (lt→ltb id 4294967296 (omega (arith, low))) (f .ids))
 
 -- ---- steps
-pub ran-holds : (r : Record) (xs : List Float) (s : Stores) → Holding r s → r .clock .steps + length xs ≤ lastStep
+pub ran-holds : (eps0 mu0 c0 : Float) (r : Record) (xs : List Float) (s : Stores) → Holding r s → r .clock .steps + length xs ≤ lastStep
     → Holding (ran eps0 mu0 c0 r xs s .study) (ran eps0 mu0 c0 r xs s .rest)
 unfolding ran
-ran-holds r [] s h b = h
-ran-holds r (x ∷ xs) s h b =
-    ran-holds (ticked r) xs (stepped eps0 mu0 c0 r x s)
+ran-holds eps0 mu0 c0 r [] s h b = h
+ran-holds eps0 mu0 c0 r (x ∷ xs) s h b =
+    ran-holds eps0 mu0 c0 (ticked r) xs (stepped eps0 mu0 c0 r x s)
     (record { held = held-tick r (h .held) (omega (arith, b)); fits = stepped-fit eps0 mu0 c0 r x s (h .fits) }) (omega (arith, b))

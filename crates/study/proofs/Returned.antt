@@ -74,7 +74,7 @@ open-comes o said w = go (lentBlock (faultWith (openedOf o) (lengthsOf (w .kept)
 
     go : (f : ℕ) → lentBlock (faultWith r (lengthsOf (w .kept))) (length (w .block)) ≡ f → Comes (opening o (lentIn w)) w nothing
     go zero z =
-        let v : World = record { block = blockOf r; kept = openStores r; bytes = block-fit r; fits = open-holds (o .nx) (o .ny) (o .nz) (o .slots) (o .spacings) said .fits } in
+        let v : World = record { block = blockOf r; kept = openStores r; bytes = block-fit r; fits = open-holds (o .nx) (o .ny) (o .nz) (o .slots) (o .spacings) (o .constants) said .fits } in
         (_, v, nothing, «cichowiej_open» w v o said 0 (rw (z, after-accepted r (w .block))))
     go (suc n) z = (_, w, nothing, «cichowiej_open» w w o said (suc n) (rw (z, after-refused n r (w .block))))
 

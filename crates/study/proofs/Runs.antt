@@ -9,10 +9,10 @@ use lib.ListN.{length}
 use lib.Ieee.{Float}
 use borrow.Author.Tests.{leb-true, le-leb}
 use Rattle.study.specs.History.{doing, Replay, stuck, reached, replay, extend, grow}
-use Rattle.root.specs.Constants.{eps0, mu0, c0}
 use Rattle.grid.specs.declared.Record.{Record}
 use Rattle.grid.specs.declared.stores.Lengths.{Lengths}
 use Rattle.grid.specs.Fault.{faultOf, first}
+use Rattle.grid.specs.Vacuum.{epsOf, muOf, lightOf}
 use Rattle.grid.specs.Stores.{Stores, lengthsOf, storeLengths, sameLengths, lentFault, faultLent, faultWith, orElse, Outcome, settle}
 use Rattle.grid.proofs.Tests.{first-none, or-none}
 use Rattle.step.specs.Step.{staleMaterial, spentClock, lastStep, freshIds, stepFault, stepped, ticked}
@@ -27,12 +27,12 @@ use Rattle.study.proofs.Faultless.{tick-whole}
 -- after a step, the steps that are left are accepted
 module _ (r : Record) (x : Float) (s : Stores) (n : ℕ) where
   abbrev s' : Stores
-  s' = stepped eps0 mu0 c0 r x s
+  s' = stepped (epsOf r) (muOf r) (lightOf r) r x s
 
   pub rest-left : stepFault r (lengthsOf s) (s .ids) (suc n) ≡ 0 → stepFault (ticked r) (lengthsOf s') (s' .ids) n ≡ 0
   unfolding stepFault faultLent storeLengths stepped
   rest-left e =
-      let long = step-long eps0 mu0 c0 r x s (suc n) e in
+      let long = step-long (epsOf r) (muOf r) (lightOf r) r x s (suc n) e in
       let four = or-none (faultWith r (lengthsOf s)) _ e in
       let own = or-none (faultOf r) _ (four .0) in
       let fresh = first-none (freshIds (r .«built_count») (s .ids)) 7 _ (four .1) in
@@ -49,12 +49,12 @@ module _ where
 
   steps-from : (xs : List Float) (r : Record) (s : Stores) (cs : List Asked) (ans : List Answer) → stepFault r (lengthsOf s) (s .ids) (length xs) ≡ 0
       → replay engine cs ≡ reached ans (some (at r s))
-      → replay engine (stepsOn xs cs) ≡ reached (silentOn xs ans) (some (at (ran eps0 mu0 c0 r xs s .study) (ran eps0 mu0 c0 r xs s .rest)))
+      → replay engine (stepsOn xs cs) ≡ reached (silentOn xs ans) (some (at (ran (epsOf r) (muOf r) (lightOf r) r xs s .study) (ran (epsOf r) (muOf r) (lightOf r) r xs s .rest)))
   unfolding ran
   steps-from [] r s cs ans e p = p
   steps-from (x ∷ xs) r s cs ans e p =
-      steps-from xs (ticked r) (stepped eps0 mu0 c0 r x s) (doing (step x) ∷ cs) (nothing ∷ ans) (rest-left r x s (length xs) e)
-      (ap (extend engine (doing (step x))) p ∙ ap (λ (o : Outcome Stores). grow engine ans (lifted (form (step x)) o s)) (first-step eps0 mu0 c0 r x xs s e))
+      steps-from xs (ticked r) (stepped (epsOf r) (muOf r) (lightOf r) r x s) (doing (step x) ∷ cs) (nothing ∷ ans) (rest-left r x s (length xs) e)
+      (ap (extend engine (doing (step x))) p ∙ ap (λ (o : Outcome Stores). grow engine ans (lifted (form (step x)) o s)) (first-step (epsOf r) (muOf r) (lightOf r) r x xs s e))
 
 no-reach : (ans : List Answer) (t : Study) → _≡_ {A = Replay Answer Study} stuck (reached ans (some t)) → ⊥
 no-reach ans t p = let z : _≡_ {A = ℕ} 0 1 = cc in omega arith
@@ -76,7 +76,7 @@ run-steps xs cs ans t e = go (replay engine cs) refl e
     go stuck p q = absurd (no-reach (nothing ∷ ans) t q)
     go (reached before none) p q = absurd (no-reach (nothing ∷ ans) t q)
     go (reached before (some u)) p q =
-        let o = ran eps0 mu0 c0 (u .rec) xs (u .kept) in
+        let o = ran (epsOf (u .rec)) (muOf (u .rec)) (lightOf (u .rec)) (u .rec) xs (u .kept) in
         let k = ran-on (stepFault (u .rec) (lengthsOf (u .kept)) (u .kept .ids) (length xs)) o (u .rec) (u .kept) before ans t q in
         steps-from xs (u .rec) (u .kept) cs before (k .0) p
         ∙ ap (λ (l : List Answer). reached (silentOn xs l) (some (at (o .study) (o .rest)))) (k .1)

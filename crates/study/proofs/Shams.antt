@@ -7,10 +7,11 @@ use mathlib.Core.Option.{Option, some}
 use mathlib.Core.List.{List}
 use lib.ListN.{getD}
 use lib.Ieee.{Float, binary64, round, ofBits, ofInt, add, sub, mul, div, neg, eq, nan}
-use Rattle.root.specs.Constants.{eps0, mu0, c0, pi, tenMinus7}
+use Rattle.root.specs.Constants.{eps0, mu0, c0, vacuumOf, pi, tenMinus7}
 use Rattle.cells.specs.Cells.{joined}
 use Rattle.grid.specs.declared.Record.{Record}
 use Rattle.grid.specs.Edited.{withRegion}
+use Rattle.grid.specs.Vacuum.{epsOf, muOf, lightOf}
 use Rattle.grid.specs.Stores.{Stores, lengthsOf, settle, storeLengths}
 use Rattle.opening.specs.Opening.{openStores}
 use Rattle.tfsf.specs.Line.{hyAfter, lineH, exMoved, exAfter, lineE}
@@ -24,8 +25,8 @@ use Rattle.study.proofs.Worked.{cube, r₁, s₁, w₀, w₁, opened, n
 
 -- ---- what an accepted step leaves, whatever else
 step-is : (f : ℕ) (x : Float) (t u : Study) (a : Answer)
-    → settled f nothing nothing (record { rec = settle f (t .rec) (t .kept) (ticked (t .rec)) (stepped eps0 mu0 c0 (t .rec) x (t .kept)) .study; kept = settle f (t .rec) (t .kept) (ticked (t .rec)) (stepped eps0 mu0 c0 (t .rec) x (t .kept)) .rest }) ≡ given a u
-    → u ≡ record { rec = ticked (t .rec); kept = stepped eps0 mu0 c0 (t .rec) x (t .kept) }
+    → settled f nothing nothing (record { rec = settle f (t .rec) (t .kept) (ticked (t .rec)) (stepped (epsOf (t .rec)) (muOf (t .rec)) (lightOf (t .rec)) (t .rec) x (t .kept)) .study; kept = settle f (t .rec) (t .kept) (ticked (t .rec)) (stepped (epsOf (t .rec)) (muOf (t .rec)) (lightOf (t .rec)) (t .rec) x (t .kept)) .rest }) ≡ given a u
+    → u ≡ record { rec = ticked (t .rec); kept = stepped (epsOf (t .rec)) (muOf (t .rec)) (lightOf (t .rec)) (t .rec) x (t .kept) }
 step-is zero x t u a e = cc
 step-is (suc f) x t u a e = absurd (no-outcome (suc f) nothing a u e)
 
@@ -36,14 +37,14 @@ same-refusal (suc f) r q s z = refl
 module _ (x : Float) (w v : World) (lent back : Room) (a : Answer) (t u : Study)
     (h : Honest engine (record { call = doing (step x); handed = w; lent = lent; reply = accepted a; left = v; back = back }))
     (before : studyOf w ≡ some t) (after : studyOf v ≡ some u) where
-  pub stepped-so : u ≡ record { rec = ticked (t .rec); kept = stepped eps0 mu0 c0 (t .rec) x (t .kept) }
+  pub stepped-so : u ≡ record { rec = ticked (t .rec); kept = stepped (epsOf (t .rec)) (muOf (t .rec)) (lightOf (t .rec)) (t .rec) x (t .kept) }
   unfolding stepCall
   stepped-so =
       let k = h .gives in
       let f = stepFault (t .rec) (lengthsOf (t .kept)) (t .kept .ids) 1 in
       let d : actsOn (step x) (some t) ≡ given a (k .0) = ap (actsOn (step x)) (sym before) ∙ k .2 in
       let i : k .0 ≡ u = one (k .0) u (sym (k .1) ∙ after) in
-      sym i ∙ step-is f x t (k .0) a (ap (λ (n : ℕ). settled n nothing nothing (record { rec = settle f (t .rec) (t .kept) (ticked (t .rec)) (stepped eps0 mu0 c0 (t .rec) x (t .kept)) .study; kept = settle f (t .rec) (t .kept) (ticked (t .rec)) (stepped eps0 mu0 c0 (t .rec) x (t .kept)) .rest })) (sym (same-refusal f (t .rec) (ticked (t .rec)) (t .kept) (stepped eps0 mu0 c0 (t .rec) x (t .kept)))) ∙ d)
+      sym i ∙ step-is f x t (k .0) a (ap (λ (n : ℕ). settled n nothing nothing (record { rec = settle f (t .rec) (t .kept) (ticked (t .rec)) (stepped (epsOf (t .rec)) (muOf (t .rec)) (lightOf (t .rec)) (t .rec) x (t .kept)) .study; kept = settle f (t .rec) (t .kept) (ticked (t .rec)) (stepped (epsOf (t .rec)) (muOf (t .rec)) (lightOf (t .rec)) (t .rec) x (t .kept)) .rest })) (sym (same-refusal f (t .rec) (ticked (t .rec)) (t .kept) (stepped (epsOf (t .rec)) (muOf (t .rec)) (lightOf (t .rec)) (t .rec) x (t .kept)))) ∙ d)
     where
       one : (p q : Study) → _≡_ {A = Option Study} (some p) (some q) → p ≡ q
       one p q e = cc
@@ -64,21 +65,21 @@ r₀ = withRegion r₁ (slabZ r₁ 0 0) (restarted (r₁ .clock))
 
 -- the line after a step of a study whose line is `aux`
 abbrev lineAfter : Record → List Float → List Float
-lineAfter r aux = lineEnd eps0 c0 r three (lineMid mu0 r aux)
+lineAfter r aux = lineEnd (epsOf r) (lightOf r) r three (lineMid (muOf r) r aux)
 
 -- "auxiliary ex at 6 is 3.0" after the first step; after the second it is another number
 once-and-again : (getD (lineAfter r₀ (s₁ .aux)) 6 nan ≡ three) × (eq (getD (lineAfter (ticked r₀) (lineAfter r₀ (s₁ .aux))) 6 nan) three ≡ false) × (eq three three ≡ true)
-unfolding lineEnd lineMid lineE lineH hyAfter exMoved exAfter joined openStores storeLengths eps0 mu0 c0 pi tenMinus7 round ofBits ofInt add sub mul div neg eq
+unfolding lineEnd lineMid lineE lineH hyAfter exMoved exAfter joined openStores storeLengths vacuumOf eps0 mu0 c0 pi tenMinus7 round ofBits ofInt add sub mul div neg eq
 once-and-again = (refl, refl, refl)
 
 no-bool : _≡_ {A = Bool} true false → ⊥
 no-bool p = let z : _≡_ {A = ℕ} 0 1 = cc in omega arith
 
 pub once-falls : (w v : World) (lent back : Room) (a : Answer) (u : Study) → Honest engine (record { call = doing (step three); handed = w; lent = lent; reply = accepted a; left = v; back = back })
-    → studyOf w ≡ some (record { rec = ticked r₀; kept = stepped eps0 mu0 c0 r₀ three s₁ }) → studyOf v ≡ some u → u .kept ≡ stepped eps0 mu0 c0 r₀ three s₁ → ⊥
+    → studyOf w ≡ some (record { rec = ticked r₀; kept = stepped (epsOf r₀) (muOf r₀) (lightOf r₀) r₀ three s₁ }) → studyOf v ≡ some u → u .kept ≡ stepped (epsOf r₀) (muOf r₀) (lightOf r₀) r₀ three s₁ → ⊥
 unfolding stepped
 once-falls w v lent back a u h before after same =
-    let k = stepped-so three w v lent back a (record { rec = ticked r₀; kept = stepped eps0 mu0 c0 r₀ three s₁ }) u h before after in
+    let k = stepped-so three w v lent back a (record { rec = ticked r₀; kept = stepped (epsOf r₀) (muOf r₀) (lightOf r₀) r₀ three s₁ }) u h before after in
     let p : lineAfter r₀ (s₁ .aux) ≡ lineAfter (ticked r₀) (lineAfter r₀ (s₁ .aux)) = ap (λ (s : Stores). s .aux) (sym same) ∙ ap (λ (z : Study). z .kept .aux) k in
     let q : getD (lineAfter (ticked r₀) (lineAfter r₀ (s₁ .aux))) 6 nan ≡ three = sym (ap (λ (l : List Float). getD l 6 nan) p) ∙ once-and-again .0 in
     no-bool (sym (once-and-again .2) ∙ sym (ap (λ (z : Float). eq z three) q) ∙ once-and-again .1)

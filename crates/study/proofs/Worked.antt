@@ -15,7 +15,6 @@ use lib.Ieee.Bits.{ofBits-fits}
 use Rattle.codec.specs.Lists.{put, every}
 use Rattle.codec.specs.Bytes.{bytesFit}
 use Rattle.codec.proofs.Lists.{every-append}
-use Rattle.root.specs.Constants.{eps0, mu0, c0}
 use Rattle.root.specs.Rounded.{zeroF, oneF}
 use Rattle.root.specs.declared.Spacings.{Spacings}
 use Rattle.grid.specs.declared.Record.{Record}
@@ -23,6 +22,7 @@ use Rattle.grid.specs.declared.stores.Lengths.{Lengths}
 use Rattle.grid.specs.Edited.{withWalls}
 use Rattle.grid.specs.Canon.{keepFirst, canonMaterial, canonRegion, canon}
 use Rattle.grid.specs.Fault.{sideFits, sidesFit, sizeFits, spacingsFit, countsFit, allBelow, polesFit, layerFits, regionFits, studyFits, faultOf}
+use Rattle.grid.specs.Vacuum.{epsOf, muOf, lightOf}
 use Rattle.grid.specs.Stores.{Stores, Outcome, outcome, lengthsOf, storeLengths, sameLengths, faultLent, faultWith}
 use Rattle.opening.specs.Opening.{openRecord, openMedia, inactive, openTables, openStores}
 use Rattle.boundary.specs.Walls.{setPeriodicCall}
@@ -35,7 +35,7 @@ use Rattle.block.proofs.Back.{fine-block, record-block}
 use Rattle.format.specs.InMemory.{StoresHeld}
 use Rattle.format.specs.Save.{saveLength, saveBytes, saveFault}
 use Rattle.format.specs.Rewind.{rewindFault}
-use Rattle.format.proofs.Back.{save-trailing}
+use Rattle.format.proofs.Cut.{save-trailing}
 use Rattle.format.proofs.Same.{save-fit, save-names}
 use Rattle.calls.specs.Blocks.{lentBlock}
 use Rattle.study.specs.History.{sameBytes, opening, doing, saving, rewinding, Reply, refused, accepted, Made, Honest, RunA, begins, makes, RunB, idle, follows, latest, standing, calls, since, Agreed}
@@ -120,12 +120,12 @@ rewinds-not : (w : World) (b : List ℕ) (n : ℕ) → T (bytesFit b) → rewind
 unfolding lentBlock
 rewinds-not w b n t e = record { fits = record { said = t; lends = refl; measured = refl }; gives = (rw e, (refl, refl)); told = refl }
 
-opens-not : (w : World) (o : Opening) → SaidOpening o → (n : ℕ) → faultWith (openRecord (o .nx) (o .ny) (o .nz) (o .slots) (o .spacings)) (lengthsOf (w .kept)) ≡ suc n
+opens-not : (w : World) (o : Opening) → SaidOpening o → (n : ℕ) → faultWith (openRecord (o .nx) (o .ny) (o .nz) (o .slots) (o .spacings) (o .constants)) (lengthsOf (w .kept)) ≡ suc n
     → Honest engine (made (opening o (lentIn w)) w nothing (refused (suc n) nothing) w nothing)
 unfolding lentBlock
 opens-not w o t n e = record { fits = record { said = t; lends = refl; measured = refl }; gives = (rw e, (refl, refl)); told = refl }
 
-opens : (w v : World) (o : Opening) → SaidOpening o → (r : Record) → r ≡ openRecord (o .nx) (o .ny) (o .nz) (o .slots) (o .spacings) → Says v r → v .kept ≡ openStores r
+opens : (w v : World) (o : Opening) → SaidOpening o → (r : Record) → r ≡ openRecord (o .nx) (o .ny) (o .nz) (o .slots) (o .spacings) (o .constants) → Says v r → v .kept ≡ openStores r
     → faultWith r (lengthsOf (w .kept)) ≡ 0 → length (w .block) ≡ blockLength
     → Honest engine (made (opening o (lentIn w)) w nothing (accepted nothing) v nothing)
 opens w v o t r i k s e whole = record {
@@ -143,7 +143,7 @@ abbrev pub unit : Spacings
 unit = record { dx = oneF; dy = oneF; dz = oneF; dt = oneF }
 
 abbrev pub cube : ℕ → Opening
-cube nz = record { nx = 1; ny = 1; nz = nz; slots = 0; spacings = unit }
+cube nz = record { nx = 1; ny = 1; nz = nz; slots = 0; spacings = unit; constants = 0 }
 
 one-fits : T (held oneF)
 one-fits = ofBits-fits binary64 0x3FF0000000000000
@@ -152,7 +152,7 @@ pub said : (nz : ℕ) → SaidOpening (cube nz)
 said nz = all-replicate held 4 oneF one-fits
 
 abbrev pub r₁ : Record
-r₁ = openRecord 1 1 1 0 unit
+r₁ = openRecord 1 1 1 0 unit 0
 
 abbrev pub s₁ : Stores
 s₁ = openStores r₁
@@ -161,13 +161,13 @@ abbrev r₂ : Record
 r₂ = ticked r₁
 
 abbrev s₂ : Stores
-s₂ = stepped eps0 mu0 c0 r₁ oneF s₁
+s₂ = stepped (epsOf r₁) (muOf r₁) (lightOf r₁) r₁ oneF s₁
 
 abbrev r₃ : Record
 r₃ = withWalls r₂ (true ∷ false ∷ false ∷ []) (r₂ .active) false
 
 abbrev r₄ : Record
-r₄ = openRecord 1 1 2 0 unit
+r₄ = openRecord 1 1 2 0 unit 0
 
 abbrev l₁ : Lengths
 l₁ = lengthsOf s₁
@@ -181,7 +181,7 @@ unfolding canon keepFirst canonMaterial canonRegion
 canonical = (refl, refl, refl, refl)
 
 h₁ : Held r₁
-h₁ = open-holds 1 1 1 0 unit (said 1) .held
+h₁ = open-holds 1 1 1 0 unit 0 (said 1) .held
 
 h₂ : Held r₂
 h₂ = held-tick r₁ h₁ (omega arith)
@@ -191,10 +191,10 @@ abbrev fresh : (s : Stores) → StoresHeld s → World
 fresh s h = record { block = replicate blockLength 7; kept = s; bytes = all-replicate (λ b. ltb b 256) blockLength 7 tt; fits = h }
 
 abbrev pub w₀ : World
-w₀ = fresh s₁ (open-holds 1 1 1 0 unit (said 1) .fits)
+w₀ = fresh s₁ (open-holds 1 1 1 0 unit 0 (said 1) .fits)
 
 abbrev w₅ : World
-w₅ = fresh (openStores r₄) (open-holds 1 1 2 0 unit (said 2) .fits)
+w₅ = fresh (openStores r₄) (open-holds 1 1 2 0 unit 0 (said 2) .fits)
 
 -- a block of no length: no record
 abbrev w₆ : World
@@ -204,7 +204,7 @@ abbrev pub w₁ : World
 w₁ = record { block = blockOf r₁; kept = s₁; bytes = block-fit r₁; fits = w₀ .fits }
 
 abbrev w₂ : World
-w₂ = record { block = blockOf r₂; kept = s₂; bytes = block-fit r₂; fits = stepped-fit eps0 mu0 c0 r₁ oneF s₁ (w₀ .fits) }
+w₂ = record { block = blockOf r₂; kept = s₂; bytes = block-fit r₂; fits = stepped-fit (epsOf r₁) (muOf r₁) (lightOf r₁) r₁ oneF s₁ (w₀ .fits) }
 
 abbrev w₃ : World
 w₃ = record { block = blockOf r₃; kept = s₂; bytes = block-fit r₃; fits = w₂ .fits }
@@ -222,7 +222,7 @@ k₃ : Says w₃ r₃
 k₃ = record { is = refl; ok = faultless .2; held = held-walls r₂ h₂ (true ∷ false ∷ false ∷ []) (r₂ .active) false refl refl; canonical = canonical .2 }
 
 k₄ : Says w₄ r₄
-k₄ = record { is = refl; ok = faultless .3; held = open-holds 1 1 2 0 unit (said 2) .held; canonical = canonical .3 }
+k₄ = record { is = refl; ok = faultless .3; held = open-holds 1 1 2 0 unit 0 (said 2) .held; canonical = canonical .3 }
 
 -- ---- what the definitions come to
 judged : (faultWith r₁ l₁ ≡ 0) × (faultWith r₄ l₁ ≡ 4) × (faultWith r₄ (lengthsOf (openStores r₄)) ≡ 0)
@@ -234,25 +234,25 @@ unfolding faultLent faultOf sizeFits sidesFit sideFits spacingsFit studyFits cou
 no-plane = refl
 
 abbrev joules : Float
-joules = energyOf eps0 mu0 r₁ (s₁ .electric) (s₁ .magnetic) (s₁ .media)
+joules = energyOf (epsOf r₁) (muOf r₁) r₁ (s₁ .electric) (s₁ .magnetic) (s₁ .media)
 
-read : outcome 0 r₁ joules ≡ energyCall eps0 mu0 r₁ (s₁ .electric) (s₁ .magnetic) (s₁ .media)
+read : outcome 0 r₁ joules ≡ energyCall (epsOf r₁) (muOf r₁) r₁ (s₁ .electric) (s₁ .magnetic) (s₁ .media)
 unfolding faultLent faultOf sizeFits sidesFit sideFits spacingsFit studyFits countsFit polesFit allBelow layerFits regionFits storeLengths openStores ofBits openMedia energyCall energyFault
 read = refl
 
-stepping : (outcome 0 r₂ s₂ ≡ stepCall eps0 mu0 c0 r₁ oneF s₁) × (stepFault r₁ l₁ (s₁ .ids) 1 ≡ 0)
+stepping : (outcome 0 r₂ s₂ ≡ stepCall (epsOf r₁) (muOf r₁) (lightOf r₁) r₁ oneF s₁) × (stepFault r₁ l₁ (s₁ .ids) 1 ≡ 0)
 unfolding faultLent faultOf sizeFits sidesFit sideFits spacingsFit studyFits countsFit polesFit allBelow layerFits regionFits storeLengths openStores ofBits stepCall stepFault freshIds sameLengths openMedia openTables inactive
 stepping = (refl, refl)
 
 as-long : lengthsOf s₂ ≡ l₁
-as-long = step-long eps0 mu0 c0 r₁ oneF s₁ 1 (stepping .1)
+as-long = step-long (epsOf r₁) (muOf r₁) (lightOf r₁) r₁ oneF s₁ 1 (stepping .1)
 
 periodic-x : outcome 0 r₃ tt ≡ setPeriodicCall r₂ (true ∷ false ∷ false ∷ [])
 unfolding faultOf sizeFits sidesFit sideFits spacingsFit studyFits countsFit polesFit allBelow layerFits regionFits ofBits setPeriodicCall
 periodic-x = refl
 
--- 1,388 bytes are enough for either study, and 1,387 are not
-room-for : (saveFault r₁ l₁ 1388 ≡ 0) × (saveFault r₁ l₁ 2000 ≡ 0) × (saveFault r₂ l₁ 1388 ≡ 0) × (saveFault r₂ l₁ 1387 ≡ 12)
+-- 1,389 bytes are enough for either study, and 1,388 are not
+room-for : (saveFault r₁ l₁ 1389 ≡ 0) × (saveFault r₁ l₁ 2000 ≡ 0) × (saveFault r₂ l₁ 1389 ≡ 0) × (saveFault r₂ l₁ 1388 ≡ 12)
 unfolding saveFault saveLength faultLent faultOf sizeFits sidesFit sideFits spacingsFit studyFits countsFit polesFit allBelow layerFits regionFits storeLengths openStores ofBits sameLengths openMedia openTables inactive
 room-for = (refl, refl, refl, refl)
 
@@ -273,17 +273,17 @@ b₂ = saveBytes r₂ s₂
 abbrev b₊ : List ℕ
 b₊ = b₁ ++ (7 ∷ [])
 
-saved₁ : Saved r₁ s₁ 1388
+saved₁ : Saved r₁ s₁ 1389
 saved₁ = record { held = h₁; fits = w₁ .fits; fine = room-for .0 }
 
-saved₂ : Saved r₂ s₂ 1388
-saved₂ = record { held = h₂; fits = w₂ .fits; fine = fits₂ 1388 0 (room-for .2) }
+saved₂ : Saved r₂ s₂ 1389
+saved₂ = record { held = h₂; fits = w₂ .fits; fine = fits₂ 1389 0 (room-for .2) }
 
 one-more : (T (bytesFit b₊)) × (rewindFault b₊ (lengthsOf s₂) ≡ 16)
 unfolding every
 one-more = (
   every-append (λ x. ltb x 256) b₁ (7 ∷ []) (save-fit r₁ s₁) tt,
-  let k = savable r₁ s₁ 1388 saved₁ in save-trailing r₁ s₁ (k .ok) (k .held) (k .fit) (k .kept) 7 [] (lengthsOf s₂),
+  save-trailing r₁ s₁ (savable r₁ s₁ 1389 saved₁) (lengthsOf s₂) 7 [],
 )
 
 -- ---- the run
@@ -294,7 +294,7 @@ abbrev e₁ : Made engine
 e₁ = made (opening (cube 1) (lentIn w₀)) w₀ nothing (accepted nothing) w₁ nothing
 
 abbrev e₂ : Made engine
-e₂ = made (saving 1388) w₁ (bare 1388) (accepted (numbers b₁)) w₁ (puts (numbers b₁) (bare 1388))
+e₂ = made (saving 1389) w₁ (bare 1389) (accepted (numbers b₁)) w₁ (puts (numbers b₁) (bare 1389))
 
 abbrev e₃ : Made engine
 e₃ = made (doing (planeReading 1 1)) w₁ (floats (oneF ∷ [])) (refused 17 (floats (zeroF ∷ []))) w₁ (puts (floats (zeroF ∷ [])) (floats (oneF ∷ [])))
@@ -309,10 +309,10 @@ abbrev e₆ : Made engine
 e₆ = made (doing (step oneF)) w₁ nothing (accepted nothing) w₂ nothing
 
 abbrev e₇ : Made engine
-e₇ = made (saving 1388) w₂ (bare 1388) (accepted (numbers b₂)) w₂ (puts (numbers b₂) (bare 1388))
+e₇ = made (saving 1389) w₂ (bare 1389) (accepted (numbers b₂)) w₂ (puts (numbers b₂) (bare 1389))
 
 abbrev e₈ : Made engine
-e₈ = made (saving 1387) w₂ (bare 1387) (refused 12 (numbers [])) w₂ (puts (numbers []) (bare 1387))
+e₈ = made (saving 1388) w₂ (bare 1388) (refused 12 (numbers [])) w₂ (puts (numbers []) (bare 1388))
 
 abbrev e₉ : Made engine
 e₉ = made (doing (setPeriodic true false false)) w₂ nothing (accepted nothing) w₃ nothing
@@ -333,7 +333,7 @@ abbrev e₁₄ : Made engine
 e₁₄ = made (rewinding b₁ (lentIn w₃)) w₃ nothing (accepted nothing) w₁ nothing
 
 abbrev e₁₅ : Made engine
-e₁₅ = made (saving 1388) w₁ (bare 1388) (accepted (numbers b₁)) w₁ (puts (numbers b₁) (bare 1388))
+e₁₅ = made (saving 1389) w₁ (bare 1389) (accepted (numbers b₁)) w₁ (puts (numbers b₁) (bare 1389))
 
 -- up to the second opening, which joins what stands
 abbrev run₁₃ : List (Made engine)
@@ -349,7 +349,7 @@ pub not-opened : Honest engine e₁₂
 not-opened = opens-not w₁ (cube 2) (said 2) 3 (judged .1)
 
 g₂ : Honest engine e₂
-g₂ = saves w₁ r₁ k₁ 1388 (room-for .0)
+g₂ = saves w₁ r₁ k₁ 1389 (room-for .0)
 
 g₄ : Honest engine e₄
 g₄ = acts w₁ r₁ k₁ (totalEnergy 1) tt (floats (oneF ∷ [])) refl w₁ (outcome 0 r₁ joules) read (study-put w₁ r₁ (k₁ .ok) h₁ refl) refl
@@ -377,8 +377,8 @@ is-run₁₃ =
     ) g₄ ((refl, refl), tt)
     ) (saves w₁ r₁ k₁ 2000 (room-for .1)) ((refl, refl), tt)
     ) g₆ ((refl, refl), tt)
-    ) (saves w₂ r₂ k₂ 1388 (fits₂ 1388 0 (room-for .2))) ((refl, refl), tt)
-    ) (saves-not w₂ r₂ k₂ 1387 11 (fits₂ 1387 12 (room-for .3))) tt
+    ) (saves w₂ r₂ k₂ 1389 (fits₂ 1389 0 (room-for .2))) ((refl, refl), tt)
+    ) (saves-not w₂ r₂ k₂ 1388 11 (fits₂ 1388 12 (room-for .3))) tt
     ) (acts w₂ r₂ k₂ (setPeriodic true false false) tt nothing refl w₃ (outcome 0 r₃ tt) periodic-x (study-put w₃ r₃ (k₃ .ok) (k₃ .held) refl) refl) ((refl, refl), tt)
     ) (rewinds-not w₃ b₊ 15 (one-more .0) (one-more .1)) tt
     ) (honest-none w₆ w₆ nothing nothing (step oneF) (all-replicate held 1 oneF one-fits) refl none-there refl refl refl) tt
@@ -388,7 +388,7 @@ is-run₁₃ =
 pub is-run : RunA engine run₁₅
 is-run =
     makes e₁₅ (
-    makes e₁₄ is-run₁₃ (resumed w₁ r₁ k₁ 1388 (room-for .0) w₃ as-long (long w₃ r₃ k₃))
+    makes e₁₄ is-run₁₃ (resumed w₁ r₁ k₁ 1389 (room-for .0) w₃ as-long (long w₃ r₃ k₃))
     (tt, inr (inr (inr (inr (inr (inr (inr (inr (inr (inr (inr (inl refl))))))))))))
     ) g₂ ((refl, refl), tt)
 
@@ -396,8 +396,8 @@ is-run =
 others : b₁ ≡ b₂ → ⊥
 unfolding canon
 others e =
-    let k = savable r₁ s₁ 1388 saved₁ in
-    let m = savable r₂ s₂ 1388 saved₂ in
+    let k = savable r₁ s₁ 1389 saved₁ in
+    let m = savable r₂ s₂ 1389 saved₂ in
     let p = save-names r₁ s₁ (k .ok) (k .held) (k .fit) (k .kept) r₂ s₂ (m .ok) (m .held) (m .fit) (m .kept) e .0 in
     let z : _≡_ {A = ℕ} 0 1 = ap (λ (r : Record). r .clock .steps) p in
     omega arith

@@ -9,11 +9,11 @@ use lib.ListN.{length, take}
 use lib.Ieee.{Float}
 use Rattle.study.specs.History.{Fate, turned, given, Reply, refused, accepted, opening, doing, saving, rewinding, Machine, Made, Honest}
 use Rattle.root.specs.Rounded.{zeroF}
-use Rattle.root.specs.Constants.{eps0, mu0, c0}
 use Rattle.grid.specs.declared.RegionKind.the-variants.{BoxRegion}
 use Rattle.grid.specs.declared.Region.{Region}
 use Rattle.grid.specs.declared.Record.{Record}
 use Rattle.grid.specs.Fault.{badStudy}
+use Rattle.grid.specs.Vacuum.{epsOf, muOf, lightOf}
 use Rattle.grid.specs.Stores.{Stores, stores, Outcome, lengthsOf, faultWith}
 use Rattle.opening.specs.Opening.{openRecord, openStores}
 use Rattle.opening.specs.Layer.{Layer, layer}
@@ -110,10 +110,10 @@ form (wallsCpml x y z t g n) = record {
 form (slab k0 k1) = storing (λ r s. regionCall r (slabZ r k0 k1) (s .aux)) (λ s. s .aux) putAux
 form (injector k0) = storing (λ r s. regionCall r (injectorZ r k0) (s .aux)) (λ s. s .aux) putAux
 form (boxRegion i0 i1 j0 j1 k0 k1) = storing (λ r s. regionCall r (boxRegionOf i0 i1 j0 j1 k0 k1) (s .aux)) (λ s. s .aux) putAux
-form (step x) = storing (λ r s. stepCall eps0 mu0 c0 r x s) (λ s. s) (λ t s. t)
-form (run xs) = storing (λ r s. runCall eps0 mu0 c0 r xs s) (λ s. s) (λ t s. t)
+form (step x) = storing (λ r s. stepCall (epsOf r) (muOf r) (lightOf r) r x s) (λ s. s) (λ t s. t)
+form (run xs) = storing (λ r s. runCall (epsOf r) (muOf r) (lightOf r) r xs s) (λ s. s) (λ t s. t)
 form resetFields = storing (λ r s. resetCall r (resetOf s)) resetOf putReset
-form (totalEnergy n) = reading n (λ r s. energyCall eps0 mu0 r (s .electric) (s .magnetic) (s .media))
+form (totalEnergy n) = reading n (λ r s. energyCall (epsOf r) (muOf r) r (s .electric) (s .magnetic) (s .media))
 form (planeReading k n) = reading n (λ r s. planeCall r k (s .electric) (s .magnetic))
 form (askLength n) = numbering n (λ r s. lengthCall r)
 
@@ -132,7 +132,7 @@ actsOn c (some t) = lifted (form c) (form c .call (t .rec) (t .kept)) (t .kept)
 
 -- an opening and a rewind are handed no study, and of block and stores the lengths
 abbrev pub openedOf : Opening → Record
-openedOf o = openRecord (o .nx) (o .ny) (o .nz) (o .slots) (o .spacings)
+openedOf o = openRecord (o .nx) (o .ny) (o .nz) (o .slots) (o .spacings) (o .constants)
 
 abbrev pub opensAs : Opening → Lent → Fate Answer Study
 opensAs o l = settled (lentBlock (faultWith (openedOf o) (l .stores)) (l .block)) nothing nothing (record { rec = openedOf o; kept = openStores (openedOf o) })

@@ -49,7 +49,7 @@ flag on = cond on oneF zeroF
 -- sigma along x of a study of n by 1 by 1 cells after the lossy edge was set
 abbrev lossyAlong : ℕ → LossyAbsorber → List Float
 lossyAlong n a =
-    row n (λ i. lossySigma (openRecord n 1 1 0 (record { dx = oneF; dy = oneF; dz = oneF; dt = oneF })) a i 0 0)
+    row n (λ i. lossySigma (openRecord n 1 1 0 (record { dx = oneF; dy = oneF; dz = oneF; dt = oneF }) 0) a i 0 0)
 
 -- Drude's a1 and a2 are stated for every plasma frequency ωp, and a memory that is kept for every b, memory and derivative
 unfoldable pub starred : (ωp b memory deriv : Float) → List Sample

@@ -59,6 +59,7 @@ pub record Opening : Type 0 where
   pub nz : ℕ
   pub slots : ℕ
   pub spacings : Spacings
+  pub constants : ℕ
 
 -- every other C function on a study, saves and rewinds apart, with what it is asked; `room` is the length of the room for its answer
 pub data Act : Type 0 where

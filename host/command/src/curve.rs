@@ -8,7 +8,7 @@ mod warnings;
 use crate::curve::plan::{Plan, WetSheet};
 use crate::curve::study::Reading;
 use crate::curve::warnings::warnings;
-use cichowiej::{Complex, Layer};
+use cichowiej::{Complex, Constants, Layer};
 
 /// At one gauge frequency, against the empty head.
 #[derive(Debug, Clone, Copy, PartialEq)]
@@ -37,6 +37,7 @@ pub struct Curve {
     pub frequencies: Vec<f64>,
     pub rows: Vec<Row>,
     pub layer: Option<Layer>,
+    pub constants: Constants,
     pub warnings: Vec<String>,
     /// How it was computed, and where the sheet's numbers come from.
     pub notes: Vec<String>,
@@ -54,6 +55,7 @@ impl Curve {
             frequencies: plan.frequencies.clone(),
             rows: points.filter_map(|(point, reading)| Some(row(point.sheet.clone()?, reading, empty, air))).collect(),
             layer: empty.layer,
+            constants: plan.grid.constants,
             warnings: Vec::new(),
             notes: notes(plan),
         };
@@ -104,6 +106,11 @@ pub fn told(layer: Option<Layer>) -> String {
     )
 }
 
+/// A line for constants that are not the old ones, where the grid's other numbers do not stand.
+pub fn other_constants(constants: Constants) -> Option<String> {
+    (constants != Constants::Old).then(|| format!("constants of vacuum: {constants}"))
+}
+
 /// Axes by their names.
 pub fn named(axes: [bool; 3]) -> String {
     let names: Vec<&str> = ["x", "y", "z"].into_iter().zip(axes).filter(|(_, on)| *on).map(|(name, _)| name).collect();
@@ -124,10 +131,11 @@ fn row(sheet: WetSheet, reading: &Reading, empty: &Reading, air: &Reading) -> Ro
 fn notes(plan: &Plan) -> Vec<String> {
     let [nx, ny, nz] = plan.grid.cells;
     let stepped = format!(
-        "{} steps of {:e} s on {nx} x {ny} x {nz} cells, Courant number {:.4}",
+        "{} steps of {:e} s on {nx} x {ny} x {nz} cells, Courant number {:.4}, constants of vacuum: {}",
         plan.steps,
         plan.grid.dt,
-        plan.grid.courant_number()
+        plan.grid.courant_number(),
+        plan.grid.constants
     );
     let paper = plan.head.sheet.paper.as_ref();
     let origins = paper.map(|paper| [paper.fibre.origin("fibre"), paper.water.origin("water")]);

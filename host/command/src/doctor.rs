@@ -4,9 +4,12 @@ use crate::curve::Curve;
 use crate::curve::plan::Plan;
 use crate::curve::study::Watch;
 use crate::head::Head;
-use cichowiej::{Grid, Study, c0};
+use cichowiej::{Constants, Grid, Refusal, Study};
 use std::f64::consts::PI;
 use std::sync::atomic::AtomicBool;
+
+/// Those of the curve: what HEAD has without naming them.
+const CONSTANTS: Constants = Constants::Old;
 
 /// A plain sheet of permittivity 4, 2 mm thick, on a short line of cells.
 const HEAD: &str = r#"
@@ -45,7 +48,7 @@ pub fn self_test() -> Vec<(String, bool)> {
 
 /// The transmission of a plain slab in dB: 1 / |T|² = 1 + ((n² - 1) / 2n)² sin²(k n d).
 fn plain_slab(index: f64, thickness: f64, frequency: f64) -> f64 {
-    let part = (index * index - 1.0) / (2.0 * index) * (2.0 * PI * frequency / c0() * index * thickness).sin();
+    let part = (index * index - 1.0) / (2.0 * index) * (2.0 * PI * frequency / CONSTANTS.c0() * index * thickness).sin();
     -10.0 * (1.0 + part * part).log10()
 }
 
@@ -70,16 +73,18 @@ fn computed() -> Result<f64, String> {
 }
 
 fn taken_up() -> (String, bool) {
-    let what = "a save is taken up again with every bit, a cut one is refused";
-    match saved() {
-        Ok(good) => (what.into(), good),
+    let what = "a save of either set of constants is taken up again with every bit, a cut one is refused";
+    let both: Result<Vec<bool>, Refusal> = Constants::ALL.into_iter().map(saved).collect();
+    match both {
+        Ok(good) => (what.into(), good.into_iter().all(|good| good)),
         Err(refusal) => (format!("{what}: refused as {refusal}"), false),
     }
 }
 
-fn saved() -> Result<bool, cichowiej::Refusal> {
+fn saved(constants: Constants) -> Result<bool, Refusal> {
     let pitch = [1e-3; 3];
-    let mut study = Study::open(&Grid { cells: [5, 6, 7], pitch, dt: 0.9 * Grid::largest_dt(pitch), pole_slots: 1 })?;
+    let dt = 0.9 * constants.largest_dt(pitch);
+    let mut study = Study::open(&Grid { cells: [5, 6, 7], pitch, dt, pole_slots: 1, constants })?;
     study.box_region([1, 3, 1, 4, 1, 5])?;
     // long enough for the wave to come up its line to the box
     let samples: Vec<f64> = (0..100).map(|step| (0.3 * f64::from(step)).sin()).collect();
@@ -88,8 +93,8 @@ fn saved() -> Result<bool, cichowiej::Refusal> {
     let mut again = Study::from_save(&save)?;
     study.step(1.0)?;
     again.step(1.0)?;
-    let cut = &save[..save.len() - 1];
-    Ok(study.save()? == again.save()? && study.total_energy()? > 0.0 && Study::from_save(cut).is_err())
+    let (cut, own) = (&save[..save.len() - 1], again.grid().constants == constants);
+    Ok(own && study.save()? == again.save()? && study.total_energy()? > 0.0 && Study::from_save(cut).is_err())
 }
 
 #[cfg(test)]
@@ -106,7 +111,7 @@ mod tests {
     /// A quarter of a wavelength reflects most, half of one nothing.
     #[test]
     fn the_closed_form() {
-        let frequency = c0() / 1e-2;
+        let frequency = CONSTANTS.c0() / 1e-2;
         assert!(plain_slab(2.0, 2.5e-3, frequency).abs() < 1e-12);
         assert!((plain_slab(2.0, 1.25e-3, frequency) + 20.0 * 1.25f64.log10()).abs() < 1e-9);
     }

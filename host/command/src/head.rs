@@ -1,6 +1,7 @@
 //! A gauge head's file (HEAD.toml): what is in it.
 
 pub mod choice;
+pub mod constants;
 pub mod lines;
 pub mod mixture;
 pub mod trouble;
@@ -10,7 +11,7 @@ use crate::choice;
 use crate::head::mixture::Paper;
 use crate::head::trouble::Trouble;
 use crate::head::units::{Conductivity, Density, Frequency, Grammage, Length, Pitch, Rate, Time};
-use cichowiej::{CellBox, CpmlConfig, Grid, Material, Pole, Source};
+use cichowiej::{CellBox, Constants, CpmlConfig, Grid, Material, Pole, Source};
 use serde::Deserialize;
 use std::collections::BTreeMap;
 
@@ -67,6 +68,9 @@ pub struct GridPart {
     pub courant: Option<f64>,
     /// As many as the materials need if not given.
     pub pole_slots: Option<usize>,
+    /// The old ones if not given, which every head has that was written before there was a choice.
+    #[serde(default, with = "constants")]
+    pub constants: Constants,
 }
 
 choice! {
@@ -309,13 +313,13 @@ impl PartOfPaper {
 impl GridPart {
     /// None where dt and the Courant number are both given, or neither.
     pub fn grid(&self, pole_slots: usize) -> Option<Grid> {
-        let pitch = self.pitch.0;
+        let (pitch, constants) = (self.pitch.0, self.constants);
         let dt = match (self.dt, self.courant) {
             (Some(dt), None) => dt.0,
-            (None, Some(courant)) => courant * Grid::largest_dt(pitch),
+            (None, Some(courant)) => courant * constants.largest_dt(pitch),
             _ => return None,
         };
-        Some(Grid { cells: self.cells, pitch, dt, pole_slots })
+        Some(Grid { cells: self.cells, pitch, dt, pole_slots, constants })
     }
 }
 

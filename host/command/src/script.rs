@@ -7,7 +7,7 @@ use crate::cli::{Failure, Input, sha256};
 use crate::curve::told;
 use crate::standing::Save;
 use cichowiej::{MaterialId, Refusal, Study, write_whole};
-use statement::{Edge, Statement, Wave, grid, pole, size, statement};
+use statement::{Edge, Size, Statement, Wave, grid, pole, size, statement};
 use std::collections::{BTreeMap, BTreeSet};
 use std::io::{self, Write};
 use std::path::Path;
@@ -77,7 +77,7 @@ type Lined<T> = (usize, T);
 /// The statements with their lines, or the first line that is none.
 fn parse(text: &str) -> Result<Vec<Lined<Statement>>, Lined<String>> {
     let mut statements: Vec<Lined<Statement>> = Vec::new();
-    let mut sized: Option<Lined<([usize; 3], usize)>> = None;
+    let mut sized: Option<Lined<Size>> = None;
     let mut names = BTreeSet::new();
     // some editors put a mark before the first line
     let text = text.strip_prefix('\u{feff}').unwrap_or(text);
@@ -87,8 +87,8 @@ fn parse(text: &str) -> Result<Vec<Lined<Statement>>, Lined<String>> {
         let mut words = Words::of(text);
         let Some(kind) = words.next() else { continue };
         match (kind, sized.take()) {
-            ("pitch", Some((size_line, (cells, slots)))) => {
-                let grid = grid(cells, slots, &mut words).map_err(at)?;
+            ("pitch", Some((size_line, size))) => {
+                let grid = grid(size, &mut words).map_err(at)?;
                 statements.push((line, Statement::Open { grid, size_line }));
             }
             (_, Some(_)) | ("pitch", None) => return Err(at("size stands before pitch, and pitch behind size".into())),

@@ -17,8 +17,8 @@ use std::fs::{self, File};
 use std::io::{self, Read};
 use std::path::{Path, PathBuf};
 
-/// No save has more bytes: 907 + 125 M + 196 N + 48 P N + 48 L + 16 nz with 16 materials and 4 pole slots.
-const LONGEST_SAVE: u64 = 907 + 125 * 16 + (196 + 48 * 4) * MAX_CELLS as u64 + (48 * 3 + 16) * MAX_SIDE as u64;
+/// No save has more bytes: 908 + 125 M + 196 N + 48 P N + 48 L + 16 nz with 16 materials and 4 pole slots.
+const LONGEST_SAVE: u64 = 908 + 125 * 16 + (196 + 48 * 4) * MAX_CELLS as u64 + (48 * 3 + 16) * MAX_SIDE as u64;
 /// Far more than a note has.
 const LONGEST_NOTE: u64 = 1 << 20;
 

@@ -227,6 +227,20 @@ fn heads_share_a_folder() {
     gathered_as_straight(&folder, "p");
 }
 
+/// A head with other constants has no points yet, and takes none of the others', whatever their names.
+#[test]
+fn points_of_other_constants_are_not_joined() {
+    let folder = Folder::new(HEAD);
+    run_all(&folder, "p");
+    let old: Vec<PathBuf> = (0..3).map(|number| file(&folder, "p", number)).collect();
+    fs::write(folder.path("head.toml"), HEAD.replace("courant = 0.5", "courant = 0.5\nconstants = \"2019\"")).unwrap();
+    run_all(&folder, "p");
+    gathered_as_straight(&folder, "p");
+    fs::copy(&old[1], file(&folder, "p", 1)).unwrap();
+    let (status, out, err) = folder.curve(&["--gather", "--points", "p"]);
+    assert!(status == 1 && out.is_empty() && err.contains("1 of 3 points") && err.contains("of another head"), "{err}");
+}
+
 #[test]
 fn one_point_at_the_same_time_on_many_machines() {
     let folder = Folder::new(HEAD);

@@ -23,6 +23,26 @@ fn a_good_head_gives_table_csv_picture_and_page() {
     assert!(!page.contains("http") || page.matches("http").count() == page.matches("http://www.w3.org").count());
 }
 
+/// Which constants a curve has stands where its grid's numbers stand; that they are not the old ones, in table and picture too.
+#[test]
+fn a_curve_says_its_constants() {
+    let made = |folder: Folder| {
+        let (status, out, err) = folder.curve(&["--csv", "c.csv", "--svg", "c.svg", "--html", "c.html"]);
+        assert_eq!((status, err.as_str()), (0, ""));
+        let [csv, svg, page] = ["c.csv", "c.svg", "c.html"].map(|file| fs::read_to_string(folder.path(file)).unwrap());
+        (out, csv, svg, page)
+    };
+    let named = |name: &str| made(with("courant = 0.5", &format!("courant = 0.5\nconstants = \"{name}\"")));
+    let ((out, csv, svg, page), old, new) = (made(Folder::new(HEAD)), named("old"), named("2019"));
+    let rows = |csv: &str| -> Vec<String> { csv.lines().filter(|line| !line.starts_with('#')).map(String::from).collect() };
+    assert!(out == old.0 && rows(&csv) == rows(&old.1) && svg == old.2, "the old ones are the usual ones");
+    assert!(csv.contains(", constants of vacuum: old\n") && page.contains(", constants of vacuum: old<"), "{csv}");
+    assert!(!out.contains("constants") && !svg.contains("constants"));
+    assert!(new.0.starts_with("absorbing layer: asked for on z, works on z\nconstants of vacuum: 2019\n"), "{}", new.0);
+    assert!(new.1.contains(", constants of vacuum: 2019\n") && new.2.contains("constants of vacuum: 2019"), "{}", new.1);
+    assert!(new.3.contains(", constants of vacuum: 2019<"));
+}
+
 #[test]
 fn as_many_threads_as_one_give_the_same_bytes() {
     let folder = Folder::new(HEAD);
@@ -65,6 +85,14 @@ fn bad_lines_are_named() {
         ("pitch = \"1 mm\"", "pitch = [1, 2]", 6, "grid.pitch", "three"),
         ("cells = [1, 1, 90]", "cells = [1, 90]", 5, "grid.cells", "array of length 3"),
         ("courant = 0.5", "courant = 0.5\ndt = \"1 ps\"", 4, "grid", "one of the two"),
+        (
+            "courant = 0.5",
+            "courant = 0.5\nconstants = \"new\"",
+            8,
+            "grid.constants",
+            "\"new\" is no set of constants: take old or 2019",
+        ),
+        ("courant = 0.5", "courant = 0.5\nconstants = 2019", 8, "grid.constants", "by its name, \"old\" or \"2019\""),
         ("[wave.injector]", "[wave.rejector]", 13, "wave.rejector", "no such kind: take one of slab, injector, box"),
         ("k0 = 20", "k0 = 20\nk1 = 30", 15, "wave.injector.k1", "unknown field"),
         ("k0 = 20", "k0 = 20\n[wave.slab]\nk0 = 3\nk1 = 4", 13, "wave", "not two"),

@@ -1,7 +1,7 @@
 //! A kill at any moment leaves the folder whole.
 
 use assert_cmd::cargo::cargo_bin;
-use cichowiej::{Grid, Study};
+use cichowiej::{Constants, Grid, Study};
 use std::collections::BTreeMap;
 use std::fs;
 use std::os::unix::process::ExitStatusExt;
@@ -48,8 +48,8 @@ struct Saves {
 
 impl Saves {
     fn new(path: PathBuf, cells: [usize; 3]) -> Self {
-        let pitch = [1e-3; 3];
-        let grid = Grid { cells, pitch, dt: 0.5 * Grid::largest_dt(pitch), pole_slots: 1 };
+        let (pitch, constants) = ([1e-3; 3], Constants::Old);
+        let grid = Grid { cells, pitch, dt: 0.5 * constants.largest_dt(pitch), pole_slots: 1, constants };
         let mut study = Study::open(&grid).unwrap();
         study.injector_z(3).unwrap();
         Self { study, path }

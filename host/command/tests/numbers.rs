@@ -2,6 +2,7 @@
 
 mod common;
 
+use cichowiej::Constants;
 use cichowiej_command::curve::Curve;
 use cichowiej_command::curve::plan::Plan;
 use cichowiej_command::curve::study::Watch;
@@ -48,7 +49,7 @@ fn the_example_is_the_closed_forms() {
     assert_eq!(curve.rows.len(), 9);
     for row in &curve.rows {
         for (&frequency, value) in curve.frequencies.iter().zip(&row.values) {
-            let slab = validate::theory::slab(&row.sheet.material, 104e-6, frequency);
+            let slab = validate::theory::slab(&row.sheet.material, 104e-6, frequency, curve.constants);
             let (db, degrees) = (20.0 * slab.transmission.norm().log10(), slab.transmission.angle().to_degrees());
             let reflected = slab.reflection.norm().powi(2);
             assert!(
@@ -56,6 +57,26 @@ fn the_example_is_the_closed_forms() {
                 "{value:?}, closed form {db} dB, {degrees}"
             );
             assert!((value.reflected.unwrap() / reflected - 1.0).abs() < 2e-3, "{value:?}, closed form {reflected}");
+        }
+    }
+}
+
+/// From the old constants to those of 2019 a curve moves in about its tenth digit, and as the closed form moves: on this grid within a quarter of that.
+#[test]
+fn constants_move_the_curve_as_they_move_the_closed_form() {
+    let new = HEAD.replace("courant = 0.5", "courant = 0.5\nconstants = \"2019\"");
+    let ((_, old), (_, new)) = (curve(HEAD), curve(&new));
+    assert_eq!((old.constants, new.constants), (Constants::Old, Constants::Si2019));
+    for (a, b) in old.rows.iter().zip(&new.rows) {
+        let slab = |frequency, set| validate::theory::slab(&a.sheet.material, 2e-3, frequency, set).transmission;
+        for ((&frequency, a), b) in old.frequencies.iter().zip(&a.values).zip(&b.values) {
+            let moved = slab(frequency, Constants::Si2019) / slab(frequency, Constants::Old);
+            let (db, degrees) = (20.0 * moved.norm().log10(), moved.angle().to_degrees());
+            let near = |found: f64, wanted: f64| wanted.abs() > 1e-11 && (found - wanted).abs() < 0.25 * wanted.abs();
+            assert!(
+                near(b.db - a.db, db) && near(b.degrees - a.degrees, degrees),
+                "{frequency} Hz: {a:?} {b:?}, {db} dB, {degrees} degrees"
+            );
         }
     }
 }
@@ -76,7 +97,7 @@ fn a_box_of_glass_is_part_of_what_comes_back() {
     let glass = "[materials.glass]\neps_inf = 4.0\n\n[[boxes]]\nmaterial = \"glass\"\ncells = { z = [30, 35] }\n\n[planes]";
     let nothing = HEAD.replace("eps_inf = 2.0, sigma = 0.1", "eps_inf = 1.0").replace("[planes]", glass);
     let (_, curve) = curve(&nothing);
-    let slab = validate::theory::slab(&cichowiej::Material::plain(4.0), 5e-3, 10e9);
+    let slab = validate::theory::slab(&cichowiej::Material::plain(4.0), 5e-3, 10e9, curve.constants);
     let value = &curve.rows[0].values[1];
     assert!(value.db.abs() < 1e-9 && value.degrees.abs() < 1e-9, "{value:?}");
     assert!((value.reflected.unwrap() - slab.reflection.norm().powi(2)).abs() < 0.02, "{value:?} {:?}", slab.reflection);

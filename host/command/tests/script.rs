@@ -1,7 +1,7 @@
 //! `cichowiej run` as a person would use it.
 
 use assert_cmd::cargo::cargo_bin;
-use cichowiej::{CellBox, CpmlConfig, Grid, Material, Pole, REFUSALS, Source, Study};
+use cichowiej::{CellBox, Constants, CpmlConfig, Grid, Material, Pole, REFUSALS, Source, Study};
 use std::fs;
 use std::path::PathBuf;
 use std::process::{Command, Stdio};
@@ -59,9 +59,9 @@ impl Folder {
 }
 
 /// The same calls through the library.
-fn by_hand() -> Study {
+fn by_hand(constants: Constants) -> Study {
     let pitch = [1e-3; 3];
-    let grid = Grid { cells: [1, 1, 90], pitch, dt: 0.5 * Grid::largest_dt(pitch), pole_slots: 1 };
+    let grid = Grid { cells: [1, 1, 90], pitch, dt: 0.5 * constants.largest_dt(pitch), pole_slots: 1, constants };
     let mut study = Study::open(&grid).unwrap();
     study.set_periodic([true, true, false]).unwrap();
     study.set_boundary_cpml(&CpmlConfig { axes: [false, false, true], thickness: 12, ..CpmlConfig::default() }).unwrap();
@@ -82,7 +82,7 @@ fn a_script_makes_the_librarys_calls() {
     let folder = Folder::new(SCRIPT);
     let (status, out, err) = folder.run(&[]);
     assert_eq!((status, err.as_str()), (0, ""));
-    let study = by_hand();
+    let study = by_hand(Constants::Old);
     assert!(fs::read(folder.path("a.save")).unwrap() == study.save().unwrap());
     let answers: Vec<&str> = out.lines().collect();
     assert_eq!(answers[..2], ["absorbing layer: asked for on z, works on z", "material paper 1"]);
@@ -90,6 +90,51 @@ fn a_script_makes_the_librarys_calls() {
     assert_eq!(answers[3], format!("plane 70 {:?}", study.plane_reading(70).unwrap()));
     assert!(answers[4].starts_with("save a.save ") && answers[4].contains("SHA-256"));
     assert!(answers[5] != answers[2] && answers[6] == answers[2], "{out}");
+}
+
+/// Of the size line; without a word the old ones.
+#[test]
+fn a_script_names_its_constants() {
+    let with = |word: &str| Folder::new(&SCRIPT.replace("poles=1\n", &format!("poles=1 {word}\n")));
+    let energy = |out: &str| out.lines().find_map(|line| line.strip_prefix("energy ")?.parse::<f64>().ok()).unwrap();
+    let mut energies = Vec::new();
+    for (word, constants) in [("", Constants::Old), ("constants=old", Constants::Old), ("constants=2019", Constants::Si2019)] {
+        let folder = with(word);
+        let (status, out, err) = folder.run(&[]);
+        assert_eq!((status, err.as_str()), (0, ""));
+        assert!(fs::read(folder.path("a.save")).unwrap() == by_hand(constants).save().unwrap(), "{word}");
+        energies.push(energy(&out));
+    }
+    let moved = (energies[2] / energies[0] - 1.0).abs();
+    assert!(energies[0] == energies[1] && moved > 1e-12 && moved < 1e-8, "{energies:?}");
+}
+
+/// What is taken up has its own constants, whatever the study before it had; where they are not the old ones it is told.
+#[test]
+fn a_save_brings_its_constants() {
+    let folder = Folder::new(&SCRIPT.replace("poles=1\n", "poles=1 constants=2019\n"));
+    let (_, whole, _) = folder.run(&[]);
+    fs::write(folder.path("s.txt"), "size 1 1 90\npitch 1mm courant=0.5\nrewind a.save\nrun 100\nenergy\nsave b.save\n").unwrap();
+    let (status, out, err) = folder.run(&[]);
+    assert_eq!((status, err.as_str(), out.lines().next()), (0, "", whole.lines().nth(5)));
+    assert_eq!(Study::from_save(&fs::read(folder.path("b.save")).unwrap()).unwrap().grid().constants, Constants::Si2019);
+    fs::write(folder.path("s.txt"), "run 100\nenergy\n").unwrap();
+    let told = "from a save of 500 steps, absorbing layer works on z\nconstants of vacuum: 2019";
+    assert_eq!(folder.run(&["--from", "a.save"]).1, format!("{told}\n{}\n", whole.lines().nth(5).unwrap()));
+}
+
+/// A save from before there was a choice, and what is written of it now.
+#[test]
+fn an_older_save_is_taken_up() {
+    let older = concat!(env!("CARGO_MANIFEST_DIR"), "/../../oracle/compare/old/poles.save");
+    let folder = Folder::new(&format!("rewind {older}\nenergy\nsave a.save\nrun 3\nenergy\n"));
+    let (status, rewound, err) = folder.run(&[]);
+    assert_eq!((status, err.as_str()), (0, ""));
+    assert_eq!(fs::metadata(folder.path("a.save")).unwrap().len(), fs::metadata(older).unwrap().len() + 1);
+    fs::write(folder.path("s.txt"), "run 3\nenergy\n").unwrap();
+    let [from_old, from_new] = [older, "a.save"].map(|save| folder.run(&["--from", save]));
+    assert!(from_old == from_new && from_old.0 == 0 && !from_old.1.contains("constants"), "{from_old:?}");
+    assert_eq!(from_old.1.lines().last(), rewound.lines().last());
 }
 
 #[test]
@@ -130,6 +175,9 @@ fn bad_lines_are_named() {
         ("size 1 1 9\npitch 1mm", 5, "dt= or courant="),
         ("size 1 1 9\npitch 1GHz dt=1ps", 5, "no unit of a length"),
         ("size 1 1 nine\npitch 1mm dt=1ps", 4, "nz: \"nine\""),
+        ("size 1 1 9 constants=new\npitch 1mm dt=1ps", 4, "constants: \"new\" is no set of constants: take old or 2019"),
+        ("size 1 1 9 constants=\npitch 1mm dt=1ps", 4, "constants: \"\" is no set"),
+        ("size 1 1 9 constants=old constants=2019\npitch 1mm dt=1ps", 4, "constants= here, or it stands twice"),
         ("pole debye delta_eps=1 tau=1ps", 4, "behind its material"),
         ("material m", 4, "eps_inf= is missing"),
         ("material vacuum eps_inf=1", 4, "taken"),

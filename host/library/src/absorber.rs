@@ -1,7 +1,7 @@
 //! The absorbing layer's tables, as the original's `AxisCoeffs::build` makes them (Roden and Gedney 2000; phyz-em, cpml.rs, NOTICE): the engine takes
 //! them as numbers.
 
-use crate::bindings::{cichowiej_eps0, cichowiej_mu0};
+use crate::constants::Constants;
 use crate::refusal::Refusal;
 use crate::stores::sizes_fit;
 use crate::study::Grid;
@@ -42,11 +42,12 @@ impl Default for CpmlConfig {
     }
 }
 
-/// What one axis has: cells, their size, the time step.
+/// What one axis has: cells, their size, the time step, the constants.
 struct Axis {
     n: usize,
     d: f64,
     dt: f64,
+    constants: Constants,
 }
 
 /// σ and α of a layer at their largest.
@@ -56,10 +57,9 @@ struct Strength {
 }
 
 impl CpmlConfig {
-    fn strength(&self, depth: f64) -> Strength {
-        let (eps0, mu0) = (cichowiej_eps0(), cichowiej_mu0());
+    fn strength(&self, depth: f64, constants: Constants) -> Strength {
+        let (eps0, mu0, c0) = (constants.eps0(), constants.mu0(), constants.c0());
         let eta0 = (mu0 / eps0).sqrt();
-        let c0 = 1.0 / (eps0 * mu0).sqrt();
         Strength {
             sigma: -(self.order + 1.0) * self.target_reflection.ln() / (2.0 * eta0 * depth) * self.sigma_scale,
             alpha: self.alpha_factor * eps0 * c0 / depth,
@@ -67,33 +67,33 @@ impl CpmlConfig {
     }
 
     /// 1/κ, b and c at the depth u of the layer, 0 at its inner side and 1 at the wall.
-    fn at(&self, u: f64, most: &Strength, dt: f64) -> [f64; 3] {
+    fn at(&self, u: f64, most: &Strength, axis: &Axis) -> [f64; 3] {
         if u <= 0.0 {
             return [1.0, 1.0, 0.0];
         }
         let sigma = most.sigma * u.powf(self.order);
         let kappa = 1.0 + (self.kappa_max - 1.0) * u.powf(self.order);
         let alpha = most.alpha * (1.0 - u).powf(self.alpha_order);
-        let b = (-((sigma / kappa) + alpha) * dt / cichowiej_eps0()).exp();
+        let b = (-((sigma / kappa) + alpha) * axis.dt / axis.constants.eps0()).exp();
         let denominator = kappa * (sigma + kappa * alpha);
         let c = if denominator.abs() > 0.0 { sigma * (b - 1.0) / denominator } else { 0.0 };
         [1.0 / kappa, b, c]
     }
 
     /// The six tables of an axis, one after another: 1/κ, b, c where E stands, and half a cell on, where H does.
-    fn axis(&self, axis: Axis) -> Vec<f64> {
+    fn axis(&self, axis: &Axis) -> Vec<f64> {
         let n = axis.n;
         if self.thickness == 0 || n < self.thickness.saturating_mul(2).saturating_add(2) {
             return inactive(n);
         }
         let thick = self.thickness as f64;
-        let most = self.strength(thick * axis.d);
+        let most = self.strength(thick * axis.d, axis.constants);
         let depth = |distance: f64| ((thick - distance) / thick).clamp(0.0, 1.0);
         let mut out = Vec::with_capacity(6 * n);
         for half in [0.0, 0.5] {
             let places = (0..n).map(|i| i as f64 + half);
             let depths = places.map(|at| depth(at).max(depth((n - 1) as f64 - at)));
-            let numbers: Vec<[f64; 3]> = depths.map(|u| self.at(u, &most, axis.dt)).collect();
+            let numbers: Vec<[f64; 3]> = depths.map(|u| self.at(u, &most, axis)).collect();
             for which in 0..3 {
                 out.extend(numbers.iter().map(|three| three[which]));
             }
@@ -116,7 +116,7 @@ pub fn tables(grid: &Grid, config: &CpmlConfig) -> Result<Vec<f64>, Refusal> {
     }
     let axis = |a: usize| {
         let (n, d) = (grid.cells[a], grid.pitch[a]);
-        if config.axes[a] { config.axis(Axis { n, d, dt: grid.dt }) } else { inactive(n) }
+        if config.axes[a] { config.axis(&Axis { n, d, dt: grid.dt, constants: grid.constants }) } else { inactive(n) }
     };
     Ok([axis(0), axis(1), axis(2)].concat())
 }

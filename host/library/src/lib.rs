@@ -4,12 +4,13 @@
 //! engine's calls under the original's names; a call that is turned down answers a [`Refusal`], which says what to change, and leaves the study as it was.
 //!
 //! ```
-//! use cichowiej::{CpmlConfig, Grid, Source, Study};
+//! use cichowiej::{Constants, CpmlConfig, Grid, Source, Study};
 //!
 //! // a line of cells along z, 1 mm each
 //! let pitch = [1e-3; 3];
-//! let dt = 0.5 * Grid::largest_dt(pitch);
-//! let mut study = Study::open(&Grid { cells: [1, 1, 100], pitch, dt, pole_slots: 0 })?;
+//! let constants = Constants::Si2019;
+//! let dt = 0.5 * constants.largest_dt(pitch);
+//! let mut study = Study::open(&Grid { cells: [1, 1, 100], pitch, dt, pole_slots: 0, constants })?;
 //! study.set_periodic([true, true, false])?;
 //! let layer = study.set_boundary_cpml(&CpmlConfig { axes: [false, false, true], ..CpmlConfig::default() })?;
 //! assert!(layer.is_whole());
@@ -25,6 +26,7 @@ mod absorber;
 #[rustfmt::skip]
 #[path = "../../../include/cichowiej.rs"]
 mod bindings;
+mod constants;
 mod file;
 mod material;
 mod refusal;
@@ -38,7 +40,7 @@ pub const ENGINE: &str =
     concat!("cichowiej ", env!("CARGO_PKG_VERSION"), ", proved by ", env!("PROOF_KIT"), ", library ", env!("ENGINE_DIGEST"));
 
 pub use absorber::{CpmlConfig, tables};
-pub use bindings::{cichowiej_c0 as c0, cichowiej_eps0 as eps0, cichowiej_mu0 as mu0};
+pub use constants::Constants;
 pub use file::write_whole;
 pub use material::{Material, Pole};
 pub use refusal::{REFUSALS, Refusal};

@@ -1,6 +1,6 @@
 //! Materials: what they answer at once, and their poles.
 
-use crate::bindings::cichowiej_eps0 as eps0;
+use crate::constants::Constants;
 use crate::spectrum::Complex;
 use crate::stores::{MATERIAL_LENGTH, MAX_POLE_SLOTS};
 use std::f64::consts::PI;
@@ -61,10 +61,11 @@ impl Material {
         self
     }
 
-    /// The relative permittivity at a frequency in Hz, the conductivity in it, for fields that go as exp(2πi f t): loss makes its imaginary part negative.
-    pub fn permittivity(&self, frequency: f64) -> Complex {
+    /// The relative permittivity at a frequency in Hz, the conductivity in it by ε0 of the constants, for fields that go as exp(2πi f t): loss makes its imaginary
+    /// part negative.
+    pub fn permittivity(&self, frequency: f64, constants: Constants) -> Complex {
         let omega = 2.0 * PI * frequency;
-        let loss = Complex::new(0.0, -self.sigma / (omega * eps0()));
+        let loss = Complex::new(0.0, -self.sigma / (omega * constants.eps0()));
         let poles = self.poles.iter().map(|pole| pole.susceptibility(omega));
         poles.fold(Complex::new(self.eps_inf, 0.0) + loss, |sum, chi| sum + chi)
     }

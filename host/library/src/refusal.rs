@@ -81,7 +81,9 @@ impl Refusal {
         match self {
             BadSize => "take 1 to 512 cells along each axis, and no more than 1,048,576 in all",
             BadSpacing => "make dx, dy, dz and dt finite and larger than 0",
-            BadStudy => "take 0 to 4 pole slots; if the study came from outside, its record contradicts itself: open it anew",
+            BadStudy => {
+                "take 0 to 4 pole slots and constants old or 2019; if the study came from outside, its record contradicts itself: open it anew"
+            }
             BadStore => "lend each store at the length that the study's sizes give it",
             Full => "use fewer materials: a study has 16 at the most, the vacuum among them",
             TooManyPoles => "open the study with more pole slots (4 at the most), or give the material fewer poles",

@@ -3,7 +3,7 @@
 use crate::bindings::Lent;
 
 /// The block's length in bytes, and a material's.
-pub const BLOCK_LENGTH: usize = 2073;
+pub const BLOCK_LENGTH: usize = 2074;
 pub const MATERIAL_LENGTH: usize = 125;
 
 pub const MAX_SIDE: usize = 512;

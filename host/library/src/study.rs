@@ -1,26 +1,28 @@
 //! A study that owns its record and its stores, with a method for each call.
 
 use crate::absorber::{CpmlConfig, tables};
-use crate::bindings::{Lent, cichowiej_c0, cichowiej_cfl_number, cichowiej_max_stable_dt};
+use crate::bindings::{Lent, cichowiej_cfl_number};
+use crate::constants::Constants;
 use crate::material::Material;
 use crate::refusal::Refusal;
 use crate::stores::{LINE_PAD, lent};
 use std::f64::consts::PI;
 
-/// What a study is opened with: cells along x, y and z, their sizes in m, the time step in s, and how many poles a material may have.
+/// What a study is opened with: cells along x, y and z, their sizes in m, the time step in s, how many poles a material may have, and which constants it has.
 #[derive(Debug, Clone, Copy, PartialEq)]
 pub struct Grid {
     pub cells: [usize; 3],
     pub pitch: [f64; 3],
     pub dt: f64,
     pub pole_slots: usize,
+    pub constants: Constants,
 }
 
 impl Grid {
     /// The Courant number c Δt √(1/Δx² + 1/Δy² + 1/Δz²); a step is stable up to 1.
     pub fn courant_number(&self) -> f64 {
         let [dx, dy, dz] = self.pitch;
-        cichowiej_cfl_number(cichowiej_c0(), dx, dy, dz, self.dt)
+        cichowiej_cfl_number(self.constants.c0(), dx, dy, dz, self.dt)
     }
 
     /// The highest frequency in Hz that the grid carries in vacuum, by the dispersion of Yee's scheme: sin(π f Δt) = c Δt √(Σ 1/Δ²) for the shortest waves, the
@@ -28,14 +30,8 @@ impl Grid {
     pub fn cutoff_frequency(&self) -> f64 {
         let axes = self.pitch.into_iter().zip(self.cells).filter(|(_, n)| *n > 1);
         let sum: f64 = axes.map(|(d, _)| 1.0 / (d * d)).sum();
-        let sine = cichowiej_c0() * self.dt * sum.sqrt();
+        let sine = self.constants.c0() * self.dt * sum.sqrt();
         sine.min(1.0).asin() / (PI * self.dt)
-    }
-
-    /// The largest stable time step of such cells.
-    pub fn largest_dt(pitch: [f64; 3]) -> f64 {
-        let [dx, dy, dz] = pitch;
-        cichowiej_max_stable_dt(cichowiej_c0(), dx, dy, dz, 0.0)
     }
 }
 
@@ -112,7 +108,7 @@ impl Study {
     pub fn open(grid: &Grid) -> Result<Self, Refusal> {
         let mut lent = lent(grid.cells, grid.pole_slots);
         let [dx, dy, dz] = grid.pitch;
-        Refusal::check(lent.open(grid.cells, grid.pole_slots, [dx, dy, dz, grid.dt]))?;
+        Refusal::check(lent.open(grid.cells, grid.pole_slots, grid.constants.number(), [dx, dy, dz, grid.dt]))?;
         Ok(Self { lent })
     }
 
@@ -263,6 +259,8 @@ impl Study {
             pitch: [dx, dy, dz],
             dt: self.double(53),
             pole_slots: usize::from(self.lent.block[14]),
+            // the engine takes no others
+            constants: Constants::numbered(usize::from(self.lent.block[73])).unwrap_or_default(),
         }
     }
 

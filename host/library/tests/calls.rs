@@ -1,11 +1,12 @@
-//! The library's calls: each refusal, what it leaves, saves, threads, the layer that is told.
+//! The library's calls: each refusal, what it leaves, saves, constants, threads, the layer that is told.
 
-use cichowiej::{CellBox, CpmlConfig, Field, Grid, Material, Pole, REFUSALS, Refusal, Source, Study};
-use std::thread;
+use cichowiej::{CellBox, Constants, CpmlConfig, Field, Grid, Material, Pole, REFUSALS, Refusal, Source, Study};
+use std::path::Path;
+use std::{fs, thread};
 
 fn grid(cells: [usize; 3]) -> Grid {
-    let pitch = [1e-3; 3];
-    Grid { cells, pitch, dt: 0.5 * Grid::largest_dt(pitch), pole_slots: 1 }
+    let (pitch, constants) = ([1e-3; 3], Constants::Old);
+    Grid { cells, pitch, dt: 0.5 * constants.largest_dt(pitch), pole_slots: 1, constants }
 }
 
 fn line(n: usize) -> Study {
@@ -88,11 +89,98 @@ fn saves_are_taken_up_and_damaged_ones_are_not() {
     assert_eq!(damaged(&|b| b[0] = 0), Refusal::BadMark);
     assert_eq!(damaged(&|b| b[12] = 7), Refusal::BadRecord);
     assert_eq!(damaged(&|b| b.push(0)), Refusal::Trailing);
-    // the clock at its end: the steps are the last four bytes of GH
+    // the clock at its end: the steps stand before the constants, GH's last byte
     let mut spent = save.clone();
     spent[75..79].fill(0xFF);
     let mut spent = Study::from_save(&spent).unwrap();
     refused(&mut spent, |s| s.step(0.0), Refusal::SpentClock);
+}
+
+/// Document 02's numbers, S-7. c0 of 2019 is the stated one: the root would give other last bits.
+#[test]
+fn the_two_sets_of_constants() {
+    let three = |set: Constants| [set.eps0(), set.mu0(), set.c0()];
+    let root = |set: Constants| 1.0 / (set.eps0() * set.mu0()).sqrt();
+    assert_eq!(three(Constants::Si2019), [8.8541878128e-12, 1.25663706212e-6, 299792458.0]);
+    assert_ne!(Constants::Si2019.c0(), root(Constants::Si2019));
+    assert_eq!(three(Constants::Old), [8.854187817e-12, 4.0 * std::f64::consts::PI * 1e-7, root(Constants::Old)]);
+    assert_eq!(Constants::default(), Constants::Old);
+    for (number, constants) in Constants::ALL.into_iter().enumerate() {
+        assert_eq!((constants.number(), Constants::numbered(number)), (number, Some(constants)));
+        assert_eq!(Constants::named(constants.name()), Some(constants));
+    }
+    assert_eq!((Constants::numbered(2), Constants::named("2018")), (None, None));
+}
+
+/// What the library computes beside the engine goes by the study's own set.
+#[test]
+fn numbers_beside_the_engine_go_by_the_constants() {
+    let bits = |x: f64| x.to_bits();
+    for constants in Constants::ALL {
+        let (pitch, c0, eps0) = ([1e-3; 3], constants.c0(), constants.eps0());
+        let per_length = 3f64.sqrt() / 1e-3;
+        let grid = Grid { dt: constants.largest_dt(pitch), constants, ..grid([1, 1, 30]) };
+        // to the last digits, which tell the sets apart by 3e-11
+        assert!((grid.dt * c0 * per_length - 1.0).abs() < 1e-15 && (grid.courant_number() - 1.0).abs() < 1e-15);
+        let half = Grid { dt: 0.5e-3 / c0, ..grid };
+        let sixth = std::f64::consts::FRAC_1_PI * 0.5f64.asin() / half.dt;
+        assert!((half.cutoff_frequency() / sixth - 1.0).abs() < 1e-15);
+        let lossy = Material::plain(1.0).with_sigma(0.5).permittivity(1e10, constants);
+        assert_eq!(bits(lossy.im), bits(-0.5 / (2.0 * std::f64::consts::PI * 1e10 * eps0)));
+    }
+    let tables = |constants| cichowiej::tables(&Grid { constants, ..grid([1, 1, 30]) }, &CpmlConfig::default()).unwrap();
+    assert_ne!(tables(Constants::Old), tables(Constants::Si2019));
+}
+
+/// ex of 1.0 alone, in a cell of 1 m³: half of ε0, bit for bit.
+#[test]
+fn the_energy_goes_by_the_constants() {
+    for (constants, energy) in [(Constants::Old, 0x3D937876F148112E), (Constants::Si2019, 0x3D937876F1206634)] {
+        let grid = Grid { cells: [1; 3], pitch: [1.0; 3], dt: 1e-9, pole_slots: 0, constants };
+        let mut save = Study::open(&grid).unwrap().save().unwrap();
+        // behind GH, ML, CI and CM, and its own frame
+        let ex = (6 + 74) + (6 + 125) + (6 + 4) + (6 + 24) + 6;
+        save[ex..ex + 8].copy_from_slice(&1f64.to_le_bytes());
+        let study = Study::from_save(&save).unwrap();
+        assert_eq!((study.plane(Field::Electric, 0, 0), study.grid()), (&[1.0][..], grid));
+        assert_eq!(study.total_energy().unwrap().to_bits(), energy);
+    }
+}
+
+#[test]
+fn a_save_has_its_studys_constants() {
+    let small = |constants| Study::open(&Grid { pole_slots: 0, constants, ..grid([1; 3]) }).unwrap();
+    let [old, new] = Constants::ALL.map(|constants| small(constants).save().unwrap());
+    assert_eq!((old.len(), new.len(), old[79], new[79]), (1389, 1389, 0, 1));
+    let mut study = small(Constants::Old);
+    study.rewind(&new).unwrap();
+    assert_eq!(study.grid().constants, Constants::Si2019);
+    let changed = |at: usize, byte: u8| {
+        let mut bytes = new.clone();
+        bytes[at] = byte;
+        Study::from_save(&bytes).map(|_| ()).unwrap_err()
+    };
+    assert_eq!(changed(79, 2), Refusal::BadRecord);
+    assert_eq!((changed(2, 72), changed(2, 75)), (Refusal::BadRecord, Refusal::BadRecord));
+    assert_eq!(changed(2, 73), Refusal::BadMark);
+}
+
+/// The saves that the library wrote before there was a choice.
+#[test]
+fn older_saves_have_the_old_constants() {
+    for name in ["small", "poles", "nan"] {
+        let path = Path::new(env!("CARGO_MANIFEST_DIR")).join(format!("../../oracle/compare/old/{name}.save"));
+        let old = fs::read(path).unwrap();
+        assert_eq!(old[2..6], [73, 0, 0, 0], "{name}");
+        let study = Study::from_save(&old).unwrap();
+        assert_eq!(study.grid().constants, Constants::Old);
+        let wider = [&old[..2], &[74, 0, 0, 0], &old[6..79], &[0], &old[79..]].concat();
+        assert!(study.save().unwrap() == wider, "{name}");
+        for end in (0..old.len()).step_by(old.len() / 700 + 1) {
+            assert_eq!(Study::from_save(&old[..end]).map(|_| ()).unwrap_err(), Refusal::Short, "{name} cut at {end}");
+        }
+        assert_eq!(Study::from_save(&[&old[..], &[0]].concat()).map(|_| ()).unwrap_err(), Refusal::Trailing, "{name}");
+    }
 }
 
 #[test]
@@ -175,7 +263,10 @@ fn nothing_panics() {
                 assert!(found <= 2 * 24);
                 Ok(())
             }
-            _ => Study::open(&Grid { cells: [a, b, c], pitch: [x, y, x], dt: y, pole_slots: a }).map(|_| ()),
+            _ => {
+                let constants = Constants::ALL[a % 2];
+                Study::open(&Grid { cells: [a, b, c], pitch: [x, y, x], dt: y, pole_slots: a, constants }).map(|_| ())
+            }
         };
     }
 }

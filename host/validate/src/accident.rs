@@ -1,6 +1,7 @@
 //! The mills' accident: the absorbing layer asked for on an axis that is too thin for it. It is told, and nothing else stops.
 //! Here is the curve that such a head would have given.
 
+use crate::CONSTANTS;
 use crate::report::{Section, db};
 use crate::slabs::{COURANT, water};
 use crate::theory;
@@ -43,7 +44,8 @@ fn sheet(moisture: f64) -> Material {
 /// What comes through at the gauge's frequency, and what was told of the layer.
 fn through(moisture: Option<f64>, thickness: usize) -> Result<(f64, Layer), Refusal> {
     let pitch = [CALIPER / (SHEET.1 - SHEET.0) as f64; 3];
-    let grid = Grid { cells: [1, 1, CELLS], pitch, dt: COURANT * Grid::largest_dt(pitch), pole_slots: 1 };
+    let dt = COURANT * CONSTANTS.largest_dt(pitch);
+    let grid = Grid { cells: [1, 1, CELLS], pitch, dt, pole_slots: 1, constants: CONSTANTS };
     let mut study = Study::open(&grid)?;
     study.set_periodic([true, true, false])?;
     let layer = study.set_boundary_cpml(&CpmlConfig { thickness, axes: [false, false, true], ..CpmlConfig::default() })?;
@@ -81,7 +83,8 @@ fn curve(thickness: usize) -> Result<Curve, Refusal> {
 pub fn section() -> Result<Section, Refusal> {
     let mut out = Section::new("accident");
     let (works, missing) = (curve(FITS)?, curve(TOO_THICK)?);
-    let theory = MOISTURES.map(|moisture| db(theory::slab(&sheet(moisture), CALIPER, FREQUENCY).transmission.norm()));
+    let by_theory = |moisture| theory::slab(&sheet(moisture), CALIPER, FREQUENCY, CONSTANTS);
+    let theory = MOISTURES.map(|moisture| db(by_theory(moisture).transmission.norm()));
     told(&mut out, &works, &missing);
     let mut rows = Vec::new();
     for (i, moisture) in MOISTURES.iter().enumerate() {

@@ -1,7 +1,8 @@
 //! The energy of a closed cavity without loss, over ten thousand steps.
 
+use crate::CONSTANTS;
 use crate::report::{Section, largest};
-use cichowiej::{CellBox, Field, Grid, Refusal, Source, Study, eps0, mu0};
+use cichowiej::{CellBox, Field, Grid, Refusal, Source, Study};
 use rayon::prelude::*;
 
 const CELLS: [usize; 3] = [20, 18, 16];
@@ -24,7 +25,8 @@ const CAVITIES: [Cavity; 2] =
 
 impl Cavity {
     fn grid() -> Grid {
-        Grid { cells: CELLS, pitch: [PITCH; 3], dt: 0.9 * Grid::largest_dt([PITCH; 3]), pole_slots: 0 }
+        let (pitch, constants) = ([PITCH; 3], CONSTANTS);
+        Grid { cells: CELLS, pitch, dt: 0.9 * constants.largest_dt(pitch), pole_slots: 0, constants }
     }
 
     /// Walls on all six sides, and in them what the block has scattered of a pulse: a box without it would give the whole wave back again.
@@ -79,8 +81,8 @@ fn kept(before: &Study, after: &Study, permittivity: &[f64]) -> f64 {
             before.component(Field::Magnetic, axis),
             after.component(Field::Magnetic, axis),
         );
-        sum += eps0() * e.iter().zip(permittivity).map(|(e, eps)| eps * e * e).sum::<f64>();
-        sum += mu0() * h.iter().zip(next).map(|(h, next)| h * next).sum::<f64>();
+        sum += CONSTANTS.eps0() * e.iter().zip(permittivity).map(|(e, eps)| eps * e * e).sum::<f64>();
+        sum += CONSTANTS.mu0() * h.iter().zip(next).map(|(h, next)| h * next).sum::<f64>();
     }
     0.5 * sum * PITCH.powi(3)
 }

@@ -1,5 +1,6 @@
 //! How far the slabs are from the theory, and the bounds on that.
 
+use crate::CONSTANTS;
 use crate::report::{Section, db, largest};
 use crate::slabs::{COURANT, Case, Line, band, cases, water};
 use crate::theory;
@@ -38,7 +39,7 @@ impl Errors {
     fn of(line: &Line) -> Result<Self, Refusal> {
         let found = line.measured()?;
         let theory: Vec<theory::Slab> =
-            band().into_iter().map(|f| theory::slab(&line.case.material, line.thickness(), f)).collect();
+            band().into_iter().map(|f| theory::slab(&line.case.material, line.thickness(), f, line.constants)).collect();
         let most = theory.iter().map(|slab| slab.reflection.norm()).fold(0.0, f64::max);
         let mut errors = Self::default();
         for ((found, wanted), f) in found.iter().zip(&theory).zip(band()) {
@@ -76,10 +77,13 @@ const FINE: [usize; 3] = [10, 20, 40];
 /// Parts of the largest reflection from which on it is counted. The bounds are on the first; the others show what that leaves out.
 const LEVELS: [f64; 3] = [0.5, 0.3, 0.1];
 
+fn line(case: &Case, fine: usize, courant: f64) -> Line {
+    Line { case: case.clone(), fine, courant, constants: CONSTANTS }
+}
+
 /// Every slab at every size of cells.
 pub fn slabs() -> Result<Section, Refusal> {
-    let lines: Vec<Line> =
-        cases().into_iter().flat_map(|case| FINE.map(|fine| Line { case: case.clone(), fine, courant: COURANT })).collect();
+    let lines: Vec<Line> = cases().into_iter().flat_map(|case| FINE.map(|fine| line(&case, fine, COURANT))).collect();
     let errors = Errors::all(&lines)?;
     let mut out = Section::new("slabs");
     error_table(&mut out, &lines, &errors);
@@ -130,7 +134,7 @@ fn level_table(out: &mut Section, lines: &[Line], errors: &[Errors]) {
 /// Water at 40 cells a wavelength, with other time steps: its recursion is of first order in dt, all else of second.
 pub fn time_steps() -> Result<Section, Refusal> {
     let case = Case { name: "Debye (water)", material: water() };
-    let lines: Vec<Line> = [0.9, COURANT, 0.25, 0.125].map(|courant| Line { case: case.clone(), fine: 40, courant }).into();
+    let lines: Vec<Line> = [0.9, COURANT, 0.25, 0.125].map(|courant| line(&case, 40, courant)).into();
     let errors = Errors::all(&lines)?;
     let row = |(line, e): (&Line, &Errors)| {
         let numbers = e.four().map(|error| format!("{error:.3}"));

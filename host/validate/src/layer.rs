@@ -1,8 +1,9 @@
 //! The absorbing layer's reflection: the echo of a pulse at both ends of a line, and of long waves on cells as small as a sheet asks for.
 
+use crate::CONSTANTS;
 use crate::report::{Section, db, largest};
 use crate::slabs::{COURANT, TOP, band, layer, pulse};
-use cichowiej::{CpmlConfig, Field, Grid, LINE_PAD, MAX_SIDE, PlaneSpectrum, Refusal, Source, Study, c0, tables};
+use cichowiej::{CpmlConfig, Field, Grid, LINE_PAD, MAX_SIDE, PlaneSpectrum, Refusal, Source, Study, tables};
 use rayon::prelude::*;
 
 const THICKNESSES: [usize; 6] = [5, 10, 15, 20, 30, 40];
@@ -17,13 +18,17 @@ const LENGTH: usize = 5 * FINE;
 const SOURCE: usize = 18;
 
 fn grid(cells: usize) -> Grid {
-    let pitch = [c0() / TOP / FINE as f64; 3];
-    Grid { cells: [1, 1, cells], pitch, dt: COURANT * Grid::largest_dt(pitch), pole_slots: 0 }
+    line(cells, CONSTANTS.c0() / TOP / FINE as f64)
+}
+
+fn line(cells: usize, pitch: f64) -> Grid {
+    let (pitch, constants) = ([pitch; 3], CONSTANTS);
+    Grid { cells: [1, 1, cells], pitch, dt: COURANT * constants.largest_dt(pitch), pole_slots: 0, constants }
 }
 
 /// How many steps a wave takes over a way in cells.
 fn steps(way: usize) -> usize {
-    (way as f64 * grid(1).pitch[2] / (c0() * grid(1).dt)) as usize
+    (way as f64 * grid(1).pitch[2] / (CONSTANTS.c0() * grid(1).dt)) as usize
 }
 
 /// ex at a plane after every step.
@@ -102,9 +107,8 @@ fn low_end(config: &CpmlConfig) -> Result<Echo, Refusal> {
 
 /// What stands in front of the wave's plane on an empty line, against the wave: what the layer sends back, and the upper end of the wave's own line.
 fn in_front(config: &CpmlConfig, pitch: f64, frequency: f64) -> Result<f64, Refusal> {
-    let pitch = [pitch; 3];
     let (before, wave) = (config.thickness + 5, config.thickness + 10);
-    let grid = Grid { cells: [1, 1, 2 * config.thickness + 30], pitch, dt: COURANT * Grid::largest_dt(pitch), pole_slots: 0 };
+    let grid = line(2 * config.thickness + 30, pitch);
     let mut study = Study::open(&grid)?;
     study.set_periodic([true, true, false])?;
     study.set_boundary_cpml(config)?;
@@ -113,7 +117,7 @@ fn in_front(config: &CpmlConfig, pitch: f64, frequency: f64) -> Result<f64, Refu
     let width = 1.0 / frequency;
     let source = Source::Modulated { amplitude: 1.0, width, delay: 5.0 * width, frequency };
     // the pulse, as long again, and four ways along the wave's own line
-    let time = 20.0 * width + 4.0 * (grid.cells[2] + 2 * LINE_PAD) as f64 * grid.pitch[2] / c0();
+    let time = 20.0 * width + 4.0 * (grid.cells[2] + 2 * LINE_PAD) as f64 * grid.pitch[2] / CONSTANTS.c0();
     for sample in source.samples(0.0, grid.dt, 0).take((time / grid.dt) as usize) {
         study.step(sample)?;
         spectra.iter_mut().for_each(|spectrum| spectrum.take(&study));
@@ -175,7 +179,7 @@ pub fn long_waves() -> Result<Section, Refusal> {
 /// With a layer whose own echo is far below that of the wave's line.
 pub fn wave_line() -> Result<Section, Refusal> {
     let fine = [10, 20, 40, 80, 160];
-    let echo = |fine: &usize| in_front(&layer(40), c0() / TOP / *fine as f64, TOP);
+    let echo = |fine: &usize| in_front(&layer(40), CONSTANTS.c0() / TOP / *fine as f64, TOP);
     let echoes = fine.par_iter().map(echo).collect::<Result<Vec<f64>, Refusal>>()?;
     let row = |(fine, echo): (&usize, &f64)| vec![fine.to_string(), format!("{echo:.1}")];
     let mut out = Section::new("wave line");

@@ -1,6 +1,6 @@
 //! Random grids and layers, unusual ones among them.
 
-use cichowiej::{CpmlConfig, Grid};
+use cichowiej::{Constants, CpmlConfig, Grid};
 
 /// SplitMix64.
 pub struct Random(pub u64);
@@ -48,11 +48,11 @@ impl Random {
     }
 
     /// One axis is long; the others are short, since the original makes its memories for all cells.
-    pub fn grid(&mut self) -> Grid {
+    pub fn grid(&mut self, constants: Constants) -> Grid {
         let mut cells = [0; 3].map(|_| 1 + self.below(4));
         cells[self.below(3)] = 1 + self.below(100);
         let pitch = [0; 3].map(|_| self.number(1e-6, 1e-2));
-        Grid { cells, pitch, dt: self.number(1e-15, 1e-11), pole_slots: 0 }
+        Grid { cells, pitch, dt: self.number(1e-15, 1e-11), pole_slots: 0, constants }
     }
 
     /// One layer in four is about as thick as the longest axis has room for.

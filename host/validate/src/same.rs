@@ -1,8 +1,9 @@
 //! The same slabs by the original Rust, and the layer's tables: equal in every bit, all NaNs counted as one.
 
+use crate::CONSTANTS;
 use crate::report::Section;
 use crate::slabs::{COURANT, Line, cases};
-use cichowiej::Refusal;
+use cichowiej::{Constants, CpmlConfig, Grid, Refusal};
 use rayon::prelude::*;
 
 /// What was compared: how many numbers, and the first that differs.
@@ -25,13 +26,25 @@ pub fn told() -> String {
     }
 }
 
+/// The original, driven as a study is.
+pub trait Original {
+    /// A line, with its slab or without, in the order of `Line::study`.
+    fn new(line: &Line, filled: bool) -> Self;
+    fn step(&mut self, sample: f64);
+    fn ex(&self) -> &[f64];
+    fn hy(&self) -> &[f64];
+    fn incident(&self, k: usize) -> f64;
+    /// The tables that it computes, in store order.
+    fn tables(grid: &Grid, layer: &CpmlConfig) -> Vec<f64>;
+}
+
 #[cfg(original)]
 mod compared {
-    use super::Same;
+    use super::{Original, Same};
     use crate::random::Random;
     use crate::slabs::Line;
-    use crate::theirs::{self, Theirs};
-    use cichowiej::{Field, Refusal, tables};
+    use crate::{new, old};
+    use cichowiej::{Constants, Field, Refusal, tables};
 
     impl Same {
         /// Takes numbers side by side; `place` tells where they stand.
@@ -48,7 +61,7 @@ mod compared {
     }
 
     /// ex and hy of every plane, and the incident wave at the planes that are used, after every step.
-    pub fn slab(line: &Line, filled: bool) -> Result<Option<Same>, Refusal> {
+    fn slab_by<Theirs: Original>(line: &Line, filled: bool) -> Result<Same, Refusal> {
         let (mut study, mut theirs, mut same) = (line.study(filled)?, Theirs::new(line, filled), Same::default());
         let places = line.places();
         let planes = [places.before, places.wave, places.slab, places.behind];
@@ -61,17 +74,29 @@ mod compared {
             let incident = planes.map(|k| study.incident(k).unwrap_or(f64::NAN));
             same.take(&incident, &planes.map(|k| theirs.incident(k)), || place("the wave's line"));
         }
-        Ok(Some(same))
+        Ok(same)
+    }
+
+    pub fn slab(line: &Line, filled: bool) -> Result<Option<Same>, Refusal> {
+        match line.constants {
+            Constants::Old => slab_by::<old::theirs::Theirs>(line, filled),
+            Constants::Si2019 => slab_by::<new::theirs::Theirs>(line, filled),
+        }
+        .map(Some)
     }
 
     /// The layer's tables for so many random grids and configurations, unusual ones among them.
-    pub fn layer_tables(count: u64) -> Option<Same> {
+    pub fn layer_tables(count: u64, constants: Constants) -> Option<Same> {
         let (mut random, mut same) = (Random(1), Same::default());
+        let theirs = match constants {
+            Constants::Old => old::theirs::Theirs::tables,
+            Constants::Si2019 => new::theirs::Theirs::tables,
+        };
         for _ in 0..count {
-            let grid = random.grid();
+            let grid = random.grid(constants);
             let config = random.config(&grid);
             let ours = tables(&grid, &config).unwrap_or_default();
-            same.take(&ours, &theirs::tables(&grid, &config), || format!("tables of {grid:?} with {config:?}"));
+            same.take(&ours, &theirs(&grid, &config), || format!("tables of {grid:?} with {config:?}"));
         }
         Some(same)
     }
@@ -87,13 +112,13 @@ pub fn slab(_: &Line, _: bool) -> Result<Option<Same>, Refusal> {
 }
 
 #[cfg(not(original))]
-pub fn layer_tables(_: u64) -> Option<Same> {
+pub fn layer_tables(_: u64, _: Constants) -> Option<Same> {
     None
 }
 
 /// Every slab at a size of cells, and its empty line.
-pub fn slabs(fine: usize) -> Result<Option<Same>, Refusal> {
-    let lines: Vec<Line> = cases().into_iter().map(|case| Line { case, fine, courant: COURANT }).collect();
+pub fn slabs(fine: usize, constants: Constants) -> Result<Option<Same>, Refusal> {
+    let lines: Vec<Line> = cases().into_iter().map(|case| Line { case, fine, courant: COURANT, constants }).collect();
     let both: Vec<(&Line, bool)> = lines.iter().flat_map(|line| [(line, false), (line, true)]).collect();
     let all = both.into_par_iter().map(|(line, filled)| slab(line, filled)).collect::<Result<Option<Vec<Same>>, Refusal>>();
     let sum = |all: Vec<Same>| {
@@ -107,10 +132,13 @@ pub fn slabs(fine: usize) -> Result<Option<Same>, Refusal> {
 
 pub fn section() -> Result<Section, Refusal> {
     let mut out = Section::new("original");
-    for fine in [10, 20, 40] {
-        say(&mut out, &format!("slabs at {fine} cells a wavelength"), slabs(fine)?);
+    for constants in Constants::ALL {
+        let with = if constants == CONSTANTS { String::new() } else { format!(", constants of {constants}") };
+        for fine in [10, 20, 40] {
+            say(&mut out, &format!("slabs at {fine} cells a wavelength{with}"), slabs(fine, constants)?);
+        }
+        say(&mut out, &format!("the layer's tables on 20000 random grids{with}"), layer_tables(20_000, constants));
     }
-    say(&mut out, "the layer's tables on 20000 random grids", layer_tables(20_000));
     Ok(out)
 }
 

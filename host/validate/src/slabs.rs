@@ -1,7 +1,7 @@
 //! Slabs on a line of cells: the studies, and what the engine and the difference equations give for them.
 
 use crate::{scheme, theory};
-use cichowiej::{CellBox, Complex, CpmlConfig, Grid, Material, PlaneSpectrum, Pole, Refusal, Source, Study, c0};
+use cichowiej::{CellBox, Complex, Constants, CpmlConfig, Grid, Material, PlaneSpectrum, Pole, Refusal, Source, Study};
 use std::f64::consts::PI;
 
 /// A slab to be compared. It is one wavelength thick at the band's top.
@@ -52,6 +52,7 @@ pub struct Line {
     pub case: Case,
     pub fine: usize,
     pub courant: f64,
+    pub constants: Constants,
 }
 
 /// Where things stand on the line, by planes.
@@ -66,7 +67,8 @@ pub struct Places {
 
 impl Line {
     pub fn pitch(&self) -> f64 {
-        c0() / (TOP * theory::index(&self.case.material, TOP).re) / self.fine as f64
+        let index = theory::index(&self.case.material, TOP, self.constants);
+        self.constants.c0() / (TOP * index.re) / self.fine as f64
     }
 
     pub fn thickness(&self) -> f64 {
@@ -82,9 +84,9 @@ impl Line {
     }
 
     pub fn grid(&self) -> Grid {
-        let pitch = [self.pitch(); 3];
-        let dt = self.courant * Grid::largest_dt(pitch);
-        Grid { cells: [1, 1, self.places().cells], pitch, dt, pole_slots: self.case.material.poles.len() }
+        let (pitch, constants) = ([self.pitch(); 3], self.constants);
+        let dt = self.courant * constants.largest_dt(pitch);
+        Grid { cells: [1, 1, self.places().cells], pitch, dt, pole_slots: self.case.material.poles.len(), constants }
     }
 
     /// Enough for the pulse to pass and for what is left in slab and layer to die out.
@@ -126,7 +128,7 @@ impl Line {
         let at = |(i, f): (usize, f64)| theory::Slab {
             transmission: through[i] / air[i],
             // what the empty line has there is the echo of the wave's own line, no reflection of the slab's
-            reflection: (back[i] - leak[i]) / front[i] * Complex::turn(2.0 * PI * f / c0() * self.way()),
+            reflection: (back[i] - leak[i]) / front[i] * self.turn(f),
         };
         Ok(band().into_iter().enumerate().map(at).collect())
     }
@@ -137,14 +139,18 @@ impl Line {
         (places.slab - 1 - places.before) as f64 * self.pitch()
     }
 
+    /// What that way does to a wave.
+    fn turn(&self, frequency: f64) -> Complex {
+        Complex::turn(2.0 * PI * frequency / self.constants.c0() * self.way())
+    }
+
     /// What the difference equations themselves give for the same.
     pub fn by_hand(&self, frequency: f64) -> theory::Slab {
         let places = self.places();
-        let cells = scheme::Cells { count: self.fine, d: self.pitch(), dt: self.grid().dt };
+        let cells = scheme::Cells { count: self.fine, d: self.pitch(), dt: self.grid().dt, constants: self.constants };
         let answer = scheme::slab(&self.case.material, &cells, frequency);
         let air = (places.before + 2..places.slab).fold(theory::ONE, |product, _| product * answer.q);
-        let turn = Complex::turn(2.0 * PI * frequency / c0() * self.way());
-        theory::Slab { transmission: answer.transmission, reflection: answer.reflection * air * turn }
+        theory::Slab { transmission: answer.transmission, reflection: answer.reflection * air * self.turn(frequency) }
     }
 }
 

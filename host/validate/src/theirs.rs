@@ -1,12 +1,13 @@
-//! The original, driven as a study is.
+//! The original, driven as a study is: compiled once for each set of constants.
 
+use super::original::boundary::BoundaryCondition;
+use super::original::dispersion::{self, DispersiveMaterial};
+use super::original::grid::YeeGrid;
+use super::original::tfsf::Tfsf;
+use super::original::{cpml, cpml::Cpml};
+use crate::same::Original;
 use crate::slabs::{Line, layer};
 use cichowiej::{CpmlConfig, Grid, Material, Pole};
-use phyz_em::boundary::BoundaryCondition;
-use phyz_em::dispersion::{self, DispersiveMaterial};
-use phyz_em::grid::YeeGrid;
-use phyz_em::tfsf::Tfsf;
-use phyz_em::{cpml, cpml::Cpml};
 
 /// The original's grid and wave.
 pub struct Theirs {
@@ -14,9 +15,8 @@ pub struct Theirs {
     wave: Tfsf,
 }
 
-impl Theirs {
-    /// A line, with its slab or without, in the order of `Line::study`.
-    pub fn new(line: &Line, filled: bool) -> Self {
+impl Original for Theirs {
+    fn new(line: &Line, filled: bool) -> Self {
         let (Grid { cells: [nx, ny, nz], pitch: [dx, dy, dz], dt, .. }, places) = (line.grid(), line.places());
         let mut grid = YeeGrid::new_rect(nx, ny, nz, dx, dy, dz, dt);
         grid.set_periodic([true, true, false]);
@@ -30,20 +30,29 @@ impl Theirs {
         Self { grid, wave }
     }
 
-    pub fn step(&mut self, sample: f64) {
+    fn step(&mut self, sample: f64) {
         self.wave.step(&mut self.grid, &|_| sample);
     }
 
-    pub fn ex(&self) -> &[f64] {
+    fn ex(&self) -> &[f64] {
         &self.grid.ex.data
     }
 
-    pub fn hy(&self) -> &[f64] {
+    fn hy(&self) -> &[f64] {
         &self.grid.hy.data
     }
 
-    pub fn incident(&self, k: usize) -> f64 {
+    fn incident(&self, k: usize) -> f64 {
         self.wave.ex_inc(k)
+    }
+
+    fn tables(grid: &Grid, layer: &CpmlConfig) -> Vec<f64> {
+        let ([nx, ny, nz], [dx, dy, dz]) = (grid.cells, grid.pitch);
+        let built = Cpml::new(nx, ny, nz, dx, dy, dz, grid.dt, config(layer));
+        let six = |axis: &cpml::AxisCoeffs| {
+            [&axis.kinv_e, &axis.b_e, &axis.c_e, &axis.kinv_h, &axis.b_h, &axis.c_h].map(Vec::clone).concat()
+        };
+        built.axis.iter().flat_map(six).collect()
     }
 }
 
@@ -60,14 +69,4 @@ fn material(material: &Material) -> DispersiveMaterial {
 fn config(config: &CpmlConfig) -> cpml::CpmlConfig {
     let CpmlConfig { thickness, order, kappa_max, alpha_factor, alpha_order, target_reflection, sigma_scale, axes } = *config;
     cpml::CpmlConfig { thickness, order, kappa_max, alpha_factor, alpha_order, target_reflection, sigma_scale, axes }
-}
-
-/// The tables that the original computes, in store order.
-pub fn tables(grid: &Grid, layer: &CpmlConfig) -> Vec<f64> {
-    let ([nx, ny, nz], [dx, dy, dz]) = (grid.cells, grid.pitch);
-    let built = Cpml::new(nx, ny, nz, dx, dy, dz, grid.dt, config(layer));
-    let six = |axis: &cpml::AxisCoeffs| {
-        [&axis.kinv_e, &axis.b_e, &axis.c_e, &axis.kinv_h, &axis.b_h, &axis.c_h].map(Vec::clone).concat()
-    };
-    built.axis.iter().flat_map(six).collect()
 }

@@ -1,20 +1,26 @@
 //! The slabs at 10 cells a wavelength and the layer's tables against the original, bit by bit. It prints a line of its own, so that a run without an
 //! original does not look like one that compared.
 
+use cichowiej::Constants;
 use std::process::ExitCode;
 use validate::same::{self, Same};
 
 fn main() -> ExitCode {
     println!("{}", same::told());
-    let slabs = match same::slabs(10) {
+    let all = Constants::ALL.map(compared);
+    if all.iter().all(|passed| *passed) { ExitCode::SUCCESS } else { ExitCode::FAILURE }
+}
+
+fn compared(constants: Constants) -> bool {
+    let slabs = match same::slabs(10, constants) {
         Ok(slabs) => slabs,
         Err(refusal) => {
             println!("FAILED: refused: {refusal}");
-            return ExitCode::FAILURE;
+            return false;
         }
     };
-    let all = [("slabs", slabs), ("the layer's tables", same::layer_tables(5000))];
-    if all.iter().all(|(name, same)| passed(name, same.as_ref())) { ExitCode::SUCCESS } else { ExitCode::FAILURE }
+    let all = [("slabs", slabs), ("the layer's tables", same::layer_tables(5000, constants))];
+    all.iter().all(|(name, same)| passed(&format!("{name}, constants {constants}"), same.as_ref()))
 }
 
 fn passed(name: &str, same: Option<&Same>) -> bool {

@@ -33,6 +33,7 @@ pub enum Call {
     Open {
         sizes: [usize; 3],
         pole_slots: usize,
+        constants: usize,
         spacings: [f64; 4],
     },
     SetMaterial {
@@ -94,6 +95,8 @@ pub enum Call {
     /// No call: the caller puts a region into the block, or takes it away. That is how a slab or an
     /// injector gets corners of its own.
     PutRegion(Region),
+    /// No call: the caller puts another set of constants into the block.
+    PutConstants(u8),
     /// No call: the caller puts another material into the place of one that stands.
     PutMaterial {
         id: usize,
@@ -119,6 +122,7 @@ impl Call {
                 | Call::PutTime(_)
                 | Call::PutBuilt(_)
                 | Call::PutRegion(_)
+                | Call::PutConstants(_)
                 | Call::PutMaterial { .. }
         )
     }
@@ -127,7 +131,7 @@ impl Call {
     /// other call of the engine all.
     pub fn written(&self) -> Range<usize> {
         match self {
-            Call::Step(_) | Call::Run(_) => block::TIME..block::HEAD,
+            Call::Step(_) | Call::Run(_) => block::TIME..block::CONSTANTS,
             Call::TotalEnergy | Call::PlaneReading(_) | Call::SaveLength | Call::Save(_) => 0..0,
             call if call.is_by_hand() => 0..0,
             _ => 0..block::LENGTH,
@@ -142,8 +146,9 @@ impl Study {
             Call::Open {
                 sizes,
                 pole_slots,
+                constants,
                 spacings,
-            } => self.open(*sizes, *pole_slots, *spacings),
+            } => self.open(*sizes, *pole_slots, *constants, *spacings),
             Call::SetMaterial { cells, numbers } => self.set_material(*cells, *numbers),
             Call::AddMaterial(m) => {
                 return self.counted(|study, id| study.add_material(&m.given(), id));
@@ -198,6 +203,7 @@ impl Study {
             Call::PutTime(time) => self.put_time(*time),
             Call::PutBuilt(count) => self.put_built(*count),
             Call::PutRegion(region) => self.put_region(*region),
+            Call::PutConstants(constants) => self.put_constants(*constants),
             Call::PutMaterial { id, material } => self.put_material(*id, material.clone()),
             call => panic!("{call:?} is a call of the engine"),
         }

@@ -24,6 +24,7 @@ const ORDERS: [usize; 8] = [0, 1, 2, 3, 4, 5, 6, 8];
 pub struct Chooser {
     pub sizes: [usize; 3],
     pub pole_slots: usize,
+    pub constants: usize,
     pub spacings: [f64; 4],
     pub calls: u64,
     pub mix: Mix,
@@ -54,6 +55,7 @@ impl Chooser {
         Self {
             sizes,
             pole_slots: random.index(5),
+            constants: random.index(2),
             spacings: spacings(random, mix),
             calls: 10 + random.below(30),
             mix,
@@ -67,6 +69,21 @@ impl Chooser {
         Call::Open {
             sizes: self.sizes,
             pole_slots: self.pole_slots,
+            constants: self.constants,
+            spacings: self.spacings,
+        }
+    }
+
+    /// The same once more with either set of constants; now and then with a number that names none.
+    fn opening_anew(&self, random: &mut Random) -> Call {
+        let constants = match random.once_in(self.refused) {
+            true => [2, 3, 255, 256, 257, 1 << 32, usize::MAX][random.index(7)],
+            false => random.index(2),
+        };
+        Call::Open {
+            sizes: self.sizes,
+            pole_slots: self.pole_slots,
+            constants,
             spacings: self.spacings,
         }
     }
@@ -129,7 +146,7 @@ impl Chooser {
 
     /// Something put into the block that no call leaves there, or a study opened anew.
     fn by_hand(&self, random: &mut Random, record: &Record) -> Call {
-        match random.below(16) {
+        match random.below(17) {
             0..=3 if record.layer_on => Call::PutActive(axes(random)),
             0..=4 => self.put_steps(random),
             5 => Call::PutTime(random.number(1e-9, self.mix)),
@@ -137,7 +154,8 @@ impl Chooser {
             8..=10 => self.put_built(random, record),
             11..=13 => Call::PutRegion(self.any_region(random)),
             14 => self.put_material(random, record),
-            _ => self.opening(),
+            15 => Call::PutConstants(random.index(2) as u8),
+            _ => self.opening_anew(random),
         }
     }
 

@@ -6,8 +6,8 @@ use std::ops::Range;
 
 use crate::Random;
 use crate::engine::Study;
-use crate::engine::block::{DOUBLES, MATERIAL, PLACES, Record};
-use crate::save::{self, FRAME, MARKS};
+use crate::engine::block::{DOUBLES, HEAD, MATERIAL, PLACES, Record};
+use crate::save::{self, FRAME, MARKS, OLD_HEAD};
 
 use fields::{head_field, library_fields, nan};
 
@@ -34,6 +34,8 @@ pub enum Damage {
     /// Another mark or payload length.
     Mark,
     Length,
+    /// One of 72 to 75 as GH's length, which is 73 in an old save and 74 in any other.
+    HeadLength,
     /// A field of GH or ML at its limit, or past it.
     Head,
     Library,
@@ -47,7 +49,7 @@ pub enum Damage {
 
 use Damage::*;
 
-pub const DAMAGES: [Damage; 21] = [
+pub const DAMAGES: [Damage; 22] = [
     Nothing,
     Bits,
     HeadBits,
@@ -62,6 +64,7 @@ pub const DAMAGES: [Damage; 21] = [
     Blank,
     Mark,
     Length,
+    HeadLength,
     Head,
     Library,
     Unused,
@@ -72,8 +75,8 @@ pub const DAMAGES: [Damage; 21] = [
 ];
 
 /// Those that leave every record at its place.
-const IN_PLACE: [Damage; 9] = [
-    Bits, HeadBits, Mark, Length, Head, Library, Unused, Nan, Number,
+const IN_PLACE: [Damage; 10] = [
+    Bits, HeadBits, Mark, Length, HeadLength, Head, Library, Unused, Nan, Number,
 ];
 
 /// A sound save, its record, and where its records stand.
@@ -85,15 +88,36 @@ pub struct Sound {
 
 impl Sound {
     pub fn new(study: &Study) -> Self {
+        Self::of(study, save::write(study), HEAD)
+    }
+
+    /// As it was written before there were constants, which in the study are 0.
+    pub fn old(study: &Study) -> Self {
+        Self::of(study, save::old(&save::write(study)), OLD_HEAD)
+    }
+
+    /// Either of them, where the study may have been saved before there were constants.
+    pub fn any(random: &mut Random, study: &Study) -> Self {
+        let old = study.record().unwrap().constants == 0 && random.once_in(2);
+        if old {
+            Self::old(study)
+        } else {
+            Self::new(study)
+        }
+    }
+
+    fn of(study: &Study, bytes: Vec<u8>, head: usize) -> Self {
         let record = study.record().unwrap();
+        let mut payloads = save::payloads(&record);
+        payloads[0] = head;
         let mut end = 0;
-        let places = save::payloads(&record).map(|length| {
+        let places = payloads.map(|length| {
             let start = end;
             end += FRAME + length;
             start..end
         });
         Self {
-            bytes: save::write(study),
+            bytes,
             record,
             places: places.to_vec(),
         }
@@ -150,6 +174,7 @@ impl Sound {
             Blank => bytes[place.start + FRAME..place.end].fill([0, 0, 1, 255][random.index(4)]),
             Mark => mark(random, &mut bytes[place.start..place.start + 2]),
             Length => self.length(random, at, bytes),
+            HeadLength => bytes[2] = [72, 73, 74, 75][random.index(4)],
             Head => {
                 let (field, value) = head_field(random, &self.record);
                 self.put(random, 0, FRAME + field, &value, bytes);

@@ -1,4 +1,4 @@
-//! Which refusal a call has to answer: document 01, "What each call turns down", read once more.
+//! Which refusal a call has to answer: document 01, "What each call turns down", read once more, and document 02's S-7.
 
 use crate::call::Call;
 use crate::engine::Study;
@@ -23,14 +23,18 @@ pub const BAD_RECORD: u32 = 15;
 pub const TRAILING: u32 = 16;
 pub const NO_SUCH_PLANE: u32 = 17;
 
+/// The highest number of a set of constants.
+const NEWEST: usize = 1;
+
 /// The refusal's number, 0 where the call is accepted.
 pub fn refusal(study: &Study, call: &Call) -> u32 {
     match call {
         Call::Open {
             sizes,
             pole_slots,
+            constants,
             spacings,
-        } => opening(study, *sizes, *pole_slots, *spacings),
+        } => opening(study, *sizes, [*pole_slots, *constants], *spacings),
         Call::Rewind(save) => rewinding(study, &save.0),
         Call::AddMaterial(m) => adding(study, &m.given()),
         call if call.is_by_hand() => 0,
@@ -68,13 +72,18 @@ fn spacings_fit(spacings: [f64; 4]) -> bool {
 }
 
 /// The standing block is not judged, but it has to have a block's length, as a store has its own.
-fn opening(study: &Study, sizes: [usize; 3], pole_slots: usize, spacings: [f64; 4]) -> u32 {
+fn opening(
+    study: &Study,
+    sizes: [usize; 3],
+    [pole_slots, constants]: [usize; 2],
+    spacings: [f64; 4],
+) -> u32 {
     if !sizes_fit(sizes) {
         return BAD_SIZE;
     }
     first([
         when(!spacings_fit(spacings), BAD_SPACING),
-        when(pole_slots > PLACES, BAD_STUDY),
+        when(pole_slots > PLACES || constants > NEWEST, BAD_STUDY),
         when(!all_fit(study, sizes, pole_slots), BAD_STORE),
     ])
 }
@@ -128,6 +137,7 @@ fn head_contradicts(record: &Record) -> bool {
     let counts = [record.built_count, record.pole_slots, record.material_count].map(usize::from);
     let [built, slots, materials] = counts;
     slots > PLACES
+        || usize::from(record.constants) > NEWEST
         || !(1..=MATERIALS).contains(&materials)
         || built > materials
         || (!record.layer_on && record.active.contains(&true))

@@ -1,4 +1,5 @@
-//! The save, read once more from document 01's words: a study written, and bytes judged and read.
+//! The save, read once more from document 01's words and from document 02's S-7: a study written, and bytes judged and
+//! read.
 
 use crate::engine::Study;
 use crate::engine::block::{self, HEAD, MATERIAL, NAN, Record, double};
@@ -10,14 +11,16 @@ pub const MARKS: [[u8; 2]; 11] = [
 ];
 /// What stands before a payload: the mark, and the payload's length as a u32.
 pub const FRAME: usize = 6;
+/// GH's length in a save from before there were constants: their byte, the last, is not there, and they are 0.
+pub const OLD_HEAD: usize = 73;
 
-/// The save's length, by document 01's formula.
+/// The save's length, by document 01's formula, which starts at 908 since S-7.
 pub fn length(record: &Record) -> usize {
     let m = usize::from(record.material_count);
     let p = usize::from(record.pole_slots);
     let n = record.cells();
     let l: usize = record.sizes.iter().sum();
-    907 + 125 * m + 196 * n + 48 * p * n + 48 * l + 16 * record.sizes[2]
+    908 + 125 * m + 196 * n + 48 * p * n + 48 * l + 16 * record.sizes[2]
 }
 
 /// The lengths of the payloads in order, as GH fixes them.
@@ -62,6 +65,30 @@ pub fn write(study: &Study) -> Vec<u8> {
         out.extend(payload);
     }
     out
+}
+
+/// A save of a study with constants 0 as it was written before there were constants.
+pub fn old(bytes: &[u8]) -> Vec<u8> {
+    let (head, rest) = bytes[FRAME..].split_at(OLD_HEAD);
+    assert_eq!(rest[0], 0, "constants that no old save has");
+    [&framed(OLD_HEAD), head, &rest[1..]].concat()
+}
+
+/// What the study of an old save writes.
+pub fn widened(old: &[u8]) -> Vec<u8> {
+    let (head, rest) = old[FRAME..].split_at(OLD_HEAD);
+    [&framed(HEAD), head, &[0], rest].concat()
+}
+
+/// What stands before a GH of so many bytes.
+fn framed(length: usize) -> [u8; FRAME] {
+    let [a, b, c, d] = (length as u32).to_le_bytes();
+    [b'G', b'H', a, b, c, d]
+}
+
+/// Whether the bytes begin as an old save does.
+pub fn is_old(bytes: &[u8]) -> bool {
+    bytes.starts_with(&framed(OLD_HEAD))
 }
 
 /// The study that a save holds, or the number of its first fault, 13 to 16.
@@ -112,9 +139,17 @@ impl<'a> Reader<'a> {
         Ok(payload)
     }
 
+    /// GH's payload, in an old save with the constants that it stands for.
+    fn head(&mut self) -> Result<Vec<u8>, u32> {
+        let length = if is_old(self.left) { OLD_HEAD } else { HEAD };
+        let mut head = self.take(MARKS[0], length)?.to_vec();
+        head.resize(HEAD, 0);
+        Ok(head)
+    }
+
     /// GH and ML. What 1 to 3 say of GH's own fields is judged before ML is looked at.
     fn record(&mut self) -> Result<Record, u32> {
-        let head = block::saved_head(self.take(MARKS[0], HEAD)?);
+        let head = block::saved_head(&self.head()?);
         let sound = head.filter(|record| judge::head_fault(record) == 0);
         let mut record = sound.ok_or(BAD_RECORD)?;
         let library = self.take(MARKS[1], payloads(&record)[1])?;

@@ -84,6 +84,7 @@ fn record(random: &mut Random, sizes: [usize; 3]) -> Record {
         spacings: [0; 4].map(|_| spacing(random)),
         time: random.number(1e-9, ODD),
         steps: random.bits() as u32 >> random.below(32),
+        constants: random.index(2) as u8,
     };
     assert_eq!(judge::fault(&record), 0);
     record

@@ -60,7 +60,7 @@ pub fn play(seed: u64, tally: &mut Tally) {
         let calls: String = history.iter().map(|call| format!("  {call:?}\n")).collect();
         panic!("study of seed {seed}: {said}\nafter the calls\n{calls}");
     }
-    tally.studies += 1;
+    tally.studies[chooser.constants] += 1;
 }
 
 /// The engine and the original with the same study.
@@ -71,7 +71,7 @@ struct Pair {
 
 impl Pair {
     fn open(chooser: &Chooser, history: &mut Vec<Call>) -> Self {
-        let (sizes, pole_slots, spacings) = (chooser.sizes, chooser.pole_slots, chooser.spacings);
+        let (sizes, pole_slots) = (chooser.sizes, chooser.pole_slots);
         let call = chooser.opening();
         let mut ours = Study::lent(sizes, pole_slots);
         assert_eq!(judge::refusal(&ours, &call), 0);
@@ -79,7 +79,7 @@ impl Pair {
         let answer = ours.apply(&call);
         let pair = Self {
             ours,
-            theirs: Theirs::open(sizes, pole_slots, spacings),
+            theirs: Theirs::open(sizes, pole_slots, chooser.constants, chooser.spacings),
         };
         pair.check(&Answer::new(0, 0.0), &answer);
         pair
@@ -96,7 +96,7 @@ impl Pair {
             self.both(call, history, tally);
         }
         for done in 0..chooser.calls {
-            let record = self.theirs.expected.record().unwrap();
+            let record = self.theirs.expected().record().unwrap();
             let call = chooser.next(random, &record, done);
             self.both(call, history, tally);
         }
@@ -109,7 +109,7 @@ impl Pair {
         let expected = self.theirs.apply(&call);
         let got = self.ours.apply(&call);
         self.check(&expected, &got);
-        tally.count(&call, got.refusal, &self.theirs.expected);
+        tally.count(&call, got.refusal, self.theirs.expected());
     }
 
     fn check(&self, expected: &Answer, got: &Answer) {
@@ -120,10 +120,10 @@ impl Pair {
             got.further.to_bits(),
             expected.further.to_bits()
         );
-        if let Some(difference) = first_difference(&self.theirs.expected, &self.ours) {
+        if let Some(difference) = first_difference(self.theirs.expected(), &self.ours) {
             panic!("{difference}");
         }
-        let same = self.ours.block == self.theirs.expected.block;
+        let same = self.ours.block == self.theirs.expected().block;
         assert!(same, "a NaN in the block has other bits");
     }
 }

@@ -1,230 +1,104 @@
 //! The original's side: the same calls on the original's grid, and the block and stores that the
 //! engine has to hold after each.
+//!
+//! Each set of constants has an original of its own, and the files below theirs/ are compiled for
+//! either of them.
 
-mod arrays;
-mod by_hand;
-mod materials;
+#![allow(clippy::duplicate_mod)]
 
-use phyz_em::boundary::BoundaryCondition;
+/// The original as it is.
+#[path = "theirs"]
+mod old {
+    use phyz_em as original;
+    #[path = "side.rs"]
+    pub mod side;
+}
+
+/// The original with the constants of 2019 in its text.
+#[path = "theirs"]
+mod new {
+    use phyz_em_2019 as original;
+    #[path = "side.rs"]
+    pub mod side;
+}
+
 use phyz_em::cpml::CpmlConfig;
-use phyz_em::grid::YeeGrid;
-use phyz_em::tfsf::Tfsf;
 
-use crate::agree;
 use crate::call::Call;
-use crate::engine::{Answer, BEFORE, Study};
-use crate::{judge, save};
+use crate::engine::block::{CONSTANTS, Pole, Record};
+use crate::engine::{Answer, Study};
 
-pub use arrays::built_tables;
-use arrays::tables_of;
-use materials::original_material;
+/// The original that has the constants of the study.
+pub enum Theirs {
+    Old(old::side::Side),
+    New(new::side::Side),
+}
 
-/// A layer thicker than any grid: the original's own reckoning wraps beyond it (docs/DIFFERENCES.md).
-const THICK: usize = 1 << 20;
-
-/// The original, and what is expected of the engine. Where the original has no array for a store at
-/// the time (memories and tables without a layer, polarizations before they are built and slots that
-/// no material uses, the line without a region), `expected` keeps the store by document 01's words.
-pub struct Theirs {
-    grid: YeeGrid,
-    wave: Option<(u8, Tfsf)>,
-    pole_slots: u8,
-    built_count: u8,
-    time: f64,
-    steps: u32,
-    pub expected: Study,
+macro_rules! on_side {
+    ($theirs:expr, $side:ident => $result:expr) => {
+        match $theirs {
+            Theirs::Old($side) => $result,
+            Theirs::New($side) => $result,
+        }
+    };
 }
 
 impl Theirs {
-    /// Opens a study. Sizes and spacings are ones that the engine accepts.
-    pub fn open(sizes: [usize; 3], pole_slots: usize, spacings: [f64; 4]) -> Self {
-        let ([nx, ny, nz], [dx, dy, dz, dt]) = (sizes, spacings);
-        let mut theirs = Self {
-            grid: YeeGrid::new_rect(nx, ny, nz, dx, dy, dz, dt),
-            wave: None,
-            pole_slots: pole_slots as u8,
-            built_count: 0,
-            time: 0.0,
-            steps: 0,
-            expected: Study::lent(sizes, pole_slots),
-        };
-        theirs.expected.poles.fill(0.0);
-        theirs.expected.aux.fill(0.0);
-        theirs.open_layer();
-        theirs.read_arrays();
-        theirs.expected.block = theirs.record().write();
-        theirs
+    /// Opens a study. What is handed over is what the engine accepts.
+    pub fn open(
+        sizes: [usize; 3],
+        pole_slots: usize,
+        constants: usize,
+        spacings: [f64; 4],
+    ) -> Self {
+        match constants {
+            0 => Self::Old(old::side::Side::open(sizes, pole_slots, 0, spacings)),
+            _ => Self::New(new::side::Side::open(
+                sizes, pole_slots, constants, spacings,
+            )),
+        }
     }
 
-    /// The call on the original, where document 01 accepts it, and the answer that is expected.
+    /// The block and stores that the engine has to hold.
+    pub fn expected(&self) -> &Study {
+        on_side!(self, side => &side.expected)
+    }
+
+    /// The call on the original, where document 01 accepts it, and the answer that is expected. Where
+    /// another set of constants stands after it, the other original takes the study up.
     pub fn apply(&mut self, call: &Call) -> Answer {
-        let refusal = judge::refusal(&self.expected, call);
-        let further = match refusal {
-            0 => self.perform(call),
-            _ => 0.0,
-        };
-        self.read_arrays();
-        if refusal == 0 {
-            self.write_block(call.written());
+        let answer = on_side!(self, side => side.apply(call));
+        match (&self, self.expected().block[CONSTANTS]) {
+            (Self::New(side), 0) => *self = Self::Old(old::side::Side::of(&side.expected)),
+            (Self::Old(side), 1) => *self = Self::New(new::side::Side::of(&side.expected)),
+            _ => {}
         }
-        Answer {
-            room: self.room(call, refusal),
-            ..Answer::new(refusal, further)
-        }
-    }
-
-    /// The room lent to a save as the call has to leave it.
-    fn room(&self, call: &Call, refusal: u32) -> Vec<u8> {
-        let Call::Save(length) = call else {
-            return Vec::new();
-        };
-        let mut room = match refusal {
-            0 => save::write(&self.expected),
-            _ => Vec::new(),
-        };
-        room.resize(*length, BEFORE);
-        room
-    }
-
-    /// An accepted call; the number that it answers further.
-    fn perform(&mut self, call: &Call) -> f64 {
-        let grid = &mut self.grid;
-        match call {
-            Call::Open {
-                sizes,
-                pole_slots,
-                spacings,
-            } => *self = Self::open(*sizes, *pole_slots, *spacings),
-            Call::SetMaterial { cells, numbers } => {
-                let ([i0, i1, j0, j1, k0, k1], [eps_r, mu_r, sigma]) = (*cells, *numbers);
-                grid.set_material((i0, i1), (j0, j1), (k0, k1), eps_r, mu_r, sigma);
-            }
-            Call::AddMaterial(m) => return grid.add_material(original_material(m)).into(),
-            Call::AssignBox { id, cells } => {
-                let [i0, i1, j0, j1, k0, k1] = *cells;
-                grid.assign_material_box(*id, (i0, i1), (j0, j1), (k0, k1));
-            }
-            Call::AssignHalfspace { id, k0 } => grid.assign_material_halfspace_z(*id, *k0),
-            Call::BuildDispersion => self.build_dispersion(),
-            Call::SetPeriodic(axes) => grid.set_periodic(*axes),
-            Call::Periodic => self.set_boundary(BoundaryCondition::Periodic),
-            Call::Conductor => self.set_boundary(BoundaryCondition::PerfectConductor),
-            Call::Lossy {
-                thickness,
-                order,
-                sigma_max,
-            } => self.set_boundary(BoundaryCondition::LossyAbsorber {
-                thickness: *thickness,
-                order: *order,
-                sigma_max: *sigma_max,
-            }),
-            Call::Cpml {
-                axes,
-                thickness,
-                given,
-            } => return self.set_layer(*axes, *thickness, &given.0),
-            Call::Slab { k0, k1 } => self.set_wave(1, Tfsf::slab_z(&self.grid, *k0, *k1)),
-            Call::Injector { k0 } => self.set_wave(2, Tfsf::injector_z(&self.grid, *k0)),
-            Call::BoxRegion([i0, i1, j0, j1, k0, k1]) => {
-                let wave = Tfsf::box_region(&self.grid, *i0, *i1, *j0, *j1, *k0, *k1);
-                self.set_wave(3, wave);
-            }
-            Call::Step(sample) => self.run(&[*sample]),
-            Call::Run(samples) => self.run(samples),
-            Call::ResetFields => {
-                grid.reset_fields();
-                self.expected.psi_e.fill(0.0);
-                self.expected.psi_h.fill(0.0);
-                self.expected.poles.fill(0.0);
-            }
-            Call::TotalEnergy => return grid.total_energy(),
-            Call::PlaneReading(k) => return self.plane_reading(*k),
-            Call::SaveLength => return save::length(&self.record()) as f64,
-            Call::Save(_) => {}
-            Call::Rewind(_) => panic!("the original has no saves to go back to"),
-            by_hand => self.write_by_hand(by_hand),
-        }
-        0.0
-    }
-
-    fn build_dispersion(&mut self) {
-        self.grid.build_dispersion();
-        let built = self.grid.dispersion.is_some();
-        self.built_count = if built {
-            self.grid.materials.len() as u8
-        } else {
-            0
-        };
-        self.expected.poles.fill(0.0);
-    }
-
-    fn set_boundary(&mut self, boundary: BoundaryCondition) {
-        self.grid.set_boundary(boundary);
-        self.open_layer();
-    }
-
-    /// The layer; then the given numbers take the place of those that the original has computed for
-    /// its active axes. The answer names these.
-    fn set_layer(&mut self, axes: [bool; 3], thickness: usize, given: &[f64]) -> f64 {
-        let config = CpmlConfig::with_thickness(thickness.min(THICK)).on_axes(axes);
-        self.set_boundary(BoundaryCondition::Cpml(config));
-        let layer = self.grid.cpml.as_mut().unwrap();
-        let mut given = given;
-        let mut answer = 0;
-        for (axis, bit) in layer.axis.iter_mut().zip([1, 2, 4]) {
-            let active = axis.active;
-            for table in tables_of(axis) {
-                let (own, rest) = given.split_at(table.len());
-                given = rest;
-                if active {
-                    table.copy_from_slice(own);
-                }
-            }
-            answer += if active { bit } else { 0 };
-        }
-        f64::from(answer)
-    }
-
-    fn set_wave(&mut self, kind: u8, wave: Tfsf) {
-        self.time = wave.aux.time;
-        self.wave = Some((kind, wave));
+        answer
     }
 
     /// The steps alone, without a look at what they leave.
     pub fn run(&mut self, samples: &[f64]) {
-        for sample in samples {
-            let after = self.time + self.grid.dt;
-            match &mut self.wave {
-                Some((_, wave)) => wave.step(&mut self.grid, &|time| {
-                    assert!(agree(time, after));
-                    *sample
-                }),
-                None => {
-                    self.grid.update_h_field();
-                    self.grid.update_e_field();
-                }
-            }
-            self.time = after;
-            self.steps += 1;
-        }
+        on_side!(self, side => side.run(samples))
     }
 
-    /// The original has no such reading: document 01's words.
-    fn plane_reading(&self, k: usize) -> f64 {
-        let mut sum = 0.0;
-        for j in 0..self.grid.ny {
-            for i in 0..self.grid.nx {
-                sum += self.grid.ex.get(i, j, k) * self.grid.hy.get(i, j, k);
-            }
-        }
-        sum * (self.grid.dx * self.grid.dy)
+    /// What `run` has left: every array, and the clock.
+    pub fn read(&mut self) {
+        on_side!(self, side => side.read())
     }
+}
 
-    /// Memories and tables as opening leaves them.
-    fn open_layer(&mut self) {
-        self.expected.psi_e.fill(0.0);
-        self.expected.psi_h.fill(0.0);
-        let off = CpmlConfig::default().on_axes([false; 3]);
-        self.expected.tables = built_tables(&self.record(), off);
+/// The tables that the original with the record's constants computes for a layer, in store order.
+pub fn built_tables(record: &Record, config: CpmlConfig) -> Vec<f64> {
+    match record.constants {
+        0 => old::side::built_tables(record, &config),
+        _ => new::side::built_tables(record, &config),
+    }
+}
+
+/// The coefficients of a pole, by the original that has these constants.
+pub fn ade_coeffs(constants: usize, pole: &Pole, dt: f64) -> [f64; 3] {
+    match constants {
+        0 => old::side::ade_coeffs(pole, dt),
+        _ => new::side::ade_coeffs(pole, dt),
     }
 }

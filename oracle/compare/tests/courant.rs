@@ -10,6 +10,7 @@ mod original {
     use compare::engine::*;
     use compare::{Random, agree, report};
     use phyz_em::grid::{EPS0, MU0, YeeGrid};
+    use phyz_em_2019::grid as new;
 
     const SPACINGS: u64 = 200_000;
 
@@ -27,11 +28,35 @@ mod original {
         assert_eq!(cichowiej_c0().to_bits(), g.c0.to_bits());
     }
 
+    /// Those of 2019 as document 02 states them. c0 is stated too: it is not 1/sqrt(eps0 mu0).
+    #[test]
+    fn constants_of_2019() {
+        let g = new::YeeGrid::new_rect(1, 1, 1, 1.0, 1.0, 1.0, 1.0);
+        let (eps0, mu0, c0) = (
+            cichowiej_eps0_2019(),
+            cichowiej_mu0_2019(),
+            cichowiej_c0_2019(),
+        );
+        for (ours, stated, bits, theirs) in [
+            (eps0, 8.8541878128e-12, 0x3DA3_7876_F120_6634, new::EPS0),
+            (mu0, 1.25663706212e-6, 0x3EB5_1537_0FCB_41E4, new::MU0),
+            (c0, 299_792_458.0_f64, 0x41B1_DE78_4A00_0000, g.c0),
+            (eps0, g.eps0, new::EPS0.to_bits(), g.eps0),
+            (mu0, g.mu0, new::MU0.to_bits(), g.mu0),
+        ] {
+            let all = [ours, stated, theirs].map(f64::to_bits);
+            assert_eq!(all, [bits; 3], "{stated:e}");
+        }
+        let by_the_root = 1.0 / (eps0 * mu0).sqrt();
+        assert_eq!(by_the_root.to_bits(), 0x41B1_DE78_4A00_006D);
+    }
+
     /// Random spacings; the time step is often close to the limit, where the answer turns.
     fn choose(g: &mut YeeGrid, random: &mut Random) {
         (g.dx, g.dy, g.dz) = (random.size(), random.size(), random.size());
         g.c0 = match random.below(4) {
             0 => random.size(),
+            1 => cichowiej_c0_2019(),
             _ => cichowiej_c0(),
         };
         let limit = g.max_stable_dt();

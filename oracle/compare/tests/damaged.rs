@@ -1,5 +1,6 @@
 //! Damaged saves: the engine and the second reading name the same fault. A save that is refused leaves
-//! block and stores as they were, bit for bit; one that is accepted is what its study writes.
+//! block and stores as they were, bit for bit; one that is accepted is what its study writes, or, where it is an old
+//! one, writes with the constants put in.
 //!
 //! CICHOWIEJ_DAMAGED sets their number (`make compare-long`: a million).
 
@@ -26,12 +27,14 @@ struct Tally {
 }
 
 /// What a sound save can have in it.
-fn kinds(save: &Sound) -> [(&'static str, bool); 16] {
+fn kinds(save: &Sound) -> [(&'static str, bool); 18] {
     let record = &save.record;
     let study = save::read(&save.bytes).unwrap();
     let stores = study.stores();
     let some = |kind: fn(&f64) -> bool| stores.iter().any(|(_, store)| store.iter().any(kind));
     [
+        ("old", save::is_old(&save.bytes)),
+        ("constants of 2019", record.constants == 1),
         ("periodic", record.periodic.contains(&true)),
         ("conducting", record.periodic.contains(&false)),
         ("layer on", record.layer_on),
@@ -87,9 +90,13 @@ fn rewound(bytes: &[u8], lent: &Study) -> u32 {
     }
     let read = save::read(bytes).unwrap();
     assert_eq!(first_difference(&read, &after), None);
-    let again = after.saved(bytes.len());
+    let written = match save::is_old(bytes) {
+        true => save::widened(bytes),
+        false => bytes.to_vec(),
+    };
+    let again = after.saved(written.len());
     assert_eq!(again.refusal, 0, "saved again");
-    assert!(again.room == bytes, "saved again, it has other bytes");
+    assert!(again.room == written, "saved again, it has other bytes");
     0
 }
 
@@ -111,13 +118,15 @@ fn damaged_saves() {
     let mut random = Random::new(2000);
     let mut tally = Tally::default();
     let first = sound::small(&mut random);
-    let mut other = Sound::new(&sound::study(&mut random, first));
+    let first = sound::study(&mut random, first);
+    let mut other = Sound::any(&mut random, &first);
     for turn in 0..count.div_ceil(EACH) {
         let sizes = match random.once_in(3) {
             true => other.record.sizes,
             false => sound::small(&mut random),
         };
-        let save = Sound::new(&sound::study(&mut random, sizes));
+        let study = sound::study(&mut random, sizes);
+        let save = Sound::any(&mut random, &study);
         for (kind, holds) in kinds(&save) {
             *tally.kinds.entry(kind).or_default() += u64::from(holds);
         }
@@ -159,7 +168,8 @@ fn what_is_lent_comes_last() {
     let mut random = Random::new(2007);
     for _ in 0..50 {
         let sizes = sound::small(&mut random);
-        let save = Sound::new(&sound::study(&mut random, sizes));
+        let study = sound::study(&mut random, sizes);
+        let save = Sound::any(&mut random, &study);
         let slots = save.record.pole_slots.into();
         let noise = sound::noise(&mut random, sizes, slots);
         assert_eq!(rewound(&save.bytes, &noise), 0);

@@ -19,52 +19,44 @@ fn coefficients() {}
 #[cfg(original)]
 mod original {
     use super::ade_coeffs;
-    use compare::{Random, agree, report};
-    use phyz_em::dispersion::Pole;
-    use phyz_em::grid::EPS0;
+    use compare::engine::block::Pole;
+    use compare::engine::{cichowiej_eps0, cichowiej_eps0_2019};
+    use compare::{Random, agree, report, theirs};
 
     const POLES: u64 = 600_000;
 
-    fn pole(tag: u32, [x, y, z]: [f64; 3]) -> Pole {
-        match tag {
-            1 => Pole::Lorentz {
-                delta_eps: x,
-                omega0: y,
-                gamma: z,
-            },
-            2 => Pole::Drude {
-                omega_p: x,
-                gamma: y,
-            },
-            _ => Pole::Debye {
-                delta_eps: x,
-                tau: y,
-            },
+    /// The coefficients of a pole by a set of constants, which both sides agree on.
+    fn both(constants: usize, pole: &Pole, dt: f64) -> [f64; 3] {
+        let eps0 = [cichowiej_eps0(), cichowiej_eps0_2019()][constants];
+        let mut ours = [0.0; 3];
+        let (tag, numbers) = (pole.tag.into(), pole.numbers);
+        assert!(ade_coeffs(tag, numbers, eps0, dt, &mut ours));
+        let theirs = theirs::ade_coeffs(constants, pole, dt);
+        for (a, b) in ours.into_iter().zip(theirs) {
+            assert!(
+                agree(a, b),
+                "constants {constants}, {pole:?}, dt {dt:e}: {a:e}, {b:e}"
+            );
         }
+        ours
     }
 
     #[test]
     fn coefficients() {
         let mut random = Random::new(1969);
-        let mut finite = 0;
+        let (mut finite, mut apart) = (0, 0);
         for turn in 0..POLES {
-            let tag = 1 + (turn % 3) as u32;
+            let tag = 1 + (turn % 3) as u8;
             let numbers = [random.size(), random.size(), random.size()];
-            let dt = random.size();
-            let mut ours = [0.0; 3];
-            assert!(ade_coeffs(tag, numbers, EPS0, dt, &mut ours));
-            let (a1, a2, a3) = pole(tag, numbers).ade_coeffs(dt);
-            for (a, b) in ours.into_iter().zip([a1, a2, a3]) {
-                assert!(
-                    agree(a, b),
-                    "tag {tag} of {numbers:?}, dt {dt:e}: {a:e}, {b:e}"
-                );
-            }
-            finite += u64::from(ours.iter().all(|a| a.is_finite()));
+            let (pole, dt) = (Pole { tag, numbers }, random.size());
+            let [old, new] = [0, 1].map(|constants| both(constants, &pole, dt));
+            finite += u64::from(old.iter().all(|a| a.is_finite()));
+            apart += u64::from(!agree(old[2], new[2]));
         }
         report(&format!(
-            "coefficients: {POLES} poles, {finite} with all three finite, none differs"
+            "coefficients: {POLES} poles by either constants, {finite} with all three finite, {apart} with another a3 by the other constants, none differs"
         ));
         assert!(finite > POLES / 2 && finite < POLES);
+        assert!(apart > POLES / 2 && apart < POLES);
     }
 }

@@ -1,4 +1,4 @@
-//! The program `listing` on saves, sound and damaged: it prints what document 01 says.
+//! The program `listing` on saves, old ones among them, sound and damaged: it prints what document 01 says.
 
 use compare::damage::{DAMAGES, Sound};
 use compare::engine::Study;
@@ -71,7 +71,7 @@ fn lines(study: &Study) -> String {
 
 fn fresh(sizes: [usize; 3], pole_slots: usize) -> Study {
     let mut study = Study::lent(sizes, pole_slots);
-    assert_eq!(study.open(sizes, pole_slots, [1.0; 4]), 0);
+    assert_eq!(study.open(sizes, pole_slots, 0, [1.0; 4]), 0);
     study
 }
 
@@ -85,14 +85,18 @@ fn lists(bytes: &[u8], text: &str) {
 #[test]
 fn the_small_save() {
     let bytes = save::write(&fresh([1, 1, 1], 0));
-    assert_eq!(bytes.len(), 1_388);
+    assert_eq!(bytes.len(), 1_389);
+    let old = save::old(&bytes);
+    assert_eq!(old.len(), 1_388);
     let text = "\
 study 1 1 1 steps 0 materials 1
 0 0 0 0000000000000000 0000000000000000 0000000000000000 0000000000000000 0000000000000000 0000000000000000
 ";
-    lists(&bytes, text);
-    lists(&bytes[..1_387], "refused 13\n");
-    lists(&[&bytes[..], &[0]].concat(), "refused 16\n");
+    for bytes in [bytes, old] {
+        lists(&bytes, text);
+        lists(&bytes[..bytes.len() - 1], "refused 13\n");
+        lists(&[&bytes[..], &[0]].concat(), "refused 16\n");
+    }
     lists(&[], "refused 13\n");
 }
 
@@ -120,7 +124,13 @@ study 1 2 1 steps 12 materials 2
 0 0 0 3FF0000000000000 7FF8000000000000 7FF0000000000000 7FF8000000000000 FFF0000000000000 0000000000000000
 0 1 0 8000000000000000 C004000000000000 0000000000000001 3FB999999999999A 7FEFFFFFFFFFFFFF BFF0000000000000
 ";
+    let bytes = save::write(&study);
+    lists(&bytes, text);
+    lists(&save::old(&bytes), text);
+    study.put_constants(1);
     lists(&save::write(&study), text);
+    study.put_constants(2);
+    lists(&save::write(&study), "refused 15\n");
 }
 
 /// More than 64 cells or one slot come where 4 stands, after all that can be wrong with the bytes; more
@@ -156,7 +166,8 @@ fn damaged_saves() {
     let mut other = Sound::new(&fresh([1, 1, 1], 0));
     for _ in 0..DAMAGED {
         let sizes = [0; 3].map(|_| 1 + random.index(4));
-        let save = Sound::new(&sound::by_hand(&mut random, sizes));
+        let study = sound::by_hand(&mut random, sizes);
+        let save = Sound::any(&mut random, &study);
         let damage = DAMAGES[random.index(DAMAGES.len())];
         let bytes = save.damaged(&mut random, damage, &other);
         let text = listed(&bytes);

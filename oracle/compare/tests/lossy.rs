@@ -35,7 +35,7 @@ fn only_a_larger_wall_replaces() {
 /// The conductivities that the call leaves on a line of n cells, each of which had 7 before.
 fn line(n: usize, thickness: usize, order: usize, sigma_max: f64) -> Vec<f64> {
     let mut study = Study::lent([n, 1, 1], 0);
-    assert_eq!(study.open([n, 1, 1], 0, [1.0; 4]), 0);
+    assert_eq!(study.open([n, 1, 1], 0, 0, [1.0; 4]), 0);
     assert_eq!(study.set_material([0, n, 0, 1, 0, 1], [1.0, 1.0, 7.0]), 0);
     assert_eq!(study.set_boundary_lossy(thickness, order, sigma_max), 0);
     study.media[2 * n..].to_vec()

@@ -97,7 +97,7 @@ fn cut(random: &mut Random, study: &Study, bytes: &[u8]) {
 #[test]
 fn round_trips() {
     let studies = variable("CICHOWIEJ_ROUND_TRIPS").unwrap_or(STUDIES);
-    let (mut largest, mut nans) = (0, 0);
+    let (mut largest, mut nans, mut new) = (0, 0, 0);
     for seed in 0..studies {
         let mut random = Random::new(seed);
         let said = complaint(|| {
@@ -114,6 +114,7 @@ fn round_trips() {
             let bytes = round_trip(&mut random, &study);
             cut(&mut random, &study, &bytes);
             largest = largest.max(bytes.len());
+            new += u64::from(study.record().unwrap().constants);
             let numbers = study.stores().into_iter().flat_map(|(_, store)| store);
             nans += numbers.filter(|x| x.is_nan()).count();
         });
@@ -122,17 +123,17 @@ fn round_trips() {
         }
     }
     report(&format!(
-        "round trips: {studies} studies, the largest save of {largest} bytes, {nans} NaNs"
+        "round trips: {studies} studies, {new} with the constants of 2019, the largest save of {largest} bytes, {nans} NaNs"
     ));
-    assert!(nans > 0);
+    assert!(nans > 0 && new > 0 && new < studies);
 }
 
 /// A fresh study of one cell, and one of two cells with everything in it: every proper prefix is cut short.
 #[test]
 fn every_prefix() {
     let mut fresh = Study::lent([1, 1, 1], 0);
-    assert_eq!(fresh.open([1, 1, 1], 0, [1.0; 4]), 0);
-    assert_eq!(save::write(&fresh).len(), 1_388);
+    assert_eq!(fresh.open([1, 1, 1], 0, 0, [1.0; 4]), 0);
+    assert_eq!(save::write(&fresh).len(), 1_389);
     let mut random = Random::new(2022);
     let full = loop {
         let study = sound::by_hand(&mut random, [1, 2, 1]);

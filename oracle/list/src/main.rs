@@ -3,8 +3,9 @@
 //!
 //!     cargo run --release -p list > ../crates/replay/stdin
 //!
-//! The answers come from the original alone: the comparison's files are taken in without the engine's
-//! library, which is not even linked, so that a call of it would not build.
+//! The answers come from the original alone, those to studies with the constants of 2019 from the copy
+//! with these in its text: the comparison's files are taken in without the engine's library, which is
+//! not even linked, so that a call of it would not build.
 
 #![cfg_attr(not(original), allow(unused))]
 #![allow(dead_code)]
@@ -50,10 +51,10 @@ fn main() {
     let mut bytes = (kinds.len() as u32).to_le_bytes().to_vec();
     for (seed, kind) in kinds.iter().enumerate() {
         let (mut theirs, samples) = kind.make(seed as u64);
-        bytes.extend(write::before(&theirs.expected, &samples));
+        bytes.extend(write::before(theirs.expected(), &samples));
         let refusal = theirs.apply(&call::Call::Run(samples)).refusal;
         assert_eq!(refusal, 0, "study {}", seed + 1);
-        bytes.extend(write::after(&theirs.expected));
+        bytes.extend(write::after(theirs.expected()));
     }
     stdout().write_all(&bytes).unwrap();
 }

@@ -15,7 +15,7 @@ impl Kind {
     pub fn make(&self, seed: u64) -> (Theirs, Vec<f64>) {
         let mut random = Random::new(seed);
         let slots = self.tags.iter().map(|tags| tags.len()).max().unwrap_or(0);
-        let mut theirs = Theirs::open(self.sizes, slots, self.spacings);
+        let mut theirs = Theirs::open(self.sizes, slots, self.constants, self.spacings);
         for call in self.calls(&mut random, &theirs) {
             accepted(&mut theirs, &call);
         }
@@ -109,7 +109,7 @@ impl Kind {
         };
         let given = if let Layer::Built(..) = self.layer {
             let config = CpmlConfig::with_thickness(thickness).on_axes(axes);
-            built_tables(&theirs.expected.record().unwrap(), config)
+            built_tables(&theirs.expected().record().unwrap(), config)
         } else {
             let length = 6 * self.sizes.iter().sum::<usize>();
             tables(random, length, self.mix)

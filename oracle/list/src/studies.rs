@@ -36,6 +36,8 @@ pub enum Wall {
 #[derive(Clone, Copy)]
 pub struct Kind {
     pub sizes: [usize; 3],
+    /// 0 the older ones, 1 those of 2019.
+    pub constants: usize,
     pub spacings: [f64; 4],
     pub wall: Wall,
     pub periodic: [bool; 3],
@@ -73,6 +75,7 @@ const STRANGE: [f64; 4] = [5e-160, 2.5e150, 7e-5, 1e-165];
 /// Conducting walls, and nothing else.
 const BARE: Kind = Kind {
     sizes: [3, 2, 2],
+    constants: 0,
     spacings: USUAL,
     wall: Wall::Conductor,
     periodic: NONE,
@@ -97,7 +100,21 @@ const FULL: Kind = Kind {
 
 /// The studies in their order.
 pub fn all() -> Vec<Kind> {
-    [walls(), layers(), waves(), poles(), together(), long_rows()].concat()
+    let older = [walls(), layers(), waves(), poles(), together(), long_rows()];
+    older.into_iter().flatten().chain(of_2019()).collect()
+}
+
+/// The constants of 2019 wherever a step uses one: both half steps, poles, line and corrections, in short rows and
+/// long ones.
+fn of_2019() -> impl Iterator<Item = Kind> {
+    let with_poles = |kind: &Kind| !kind.tags.is_empty();
+    let long = long_rows().into_iter().filter(with_poles);
+    let short = [vec![BARE], waves(), poles(), together()];
+    let kinds = short.into_iter().flatten().chain(long);
+    kinds.map(|kind| Kind {
+        constants: 1,
+        ..kind
+    })
 }
 
 /// Walls, grids one cell wide, and every mix of numbers.

@@ -1,6 +1,6 @@
 // What is read from the fields. The block is left.
 ghost use mathlib.Core.Path.{_≡_};
-ghost use Rattle.root.specs.Constants.{eps0, mu0};
+ghost use Rattle.grid.specs.Vacuum.{epsOf, muOf};
 ghost use Rattle.root.specs.Rounded.{zeroF};
 ghost use Rattle.fields.specs.Fields.{energyCall, planeCall};
 ghost use Rattle.calls.specs.Blocks.{readout, readBlock, answered, answering};
@@ -9,7 +9,7 @@ use fields::readings;
 use grid::fault::BAD_STUDY;
 
 pub fn total_energy(b: &[u8], e: &[f64], h: &[f64], media: &[f64], energy: &mut [f64]) -> u32
-    ensures { λ n. ⌜ readout n (now (energy .exit)) ≡ readBlock (λ r. answering (energyCall eps0 mu0 r (now (e .entry)) (now (h .entry)) (now (media .entry))) (now (energy .entry))) (now (b .entry)) (answered zeroF (now (energy .entry))) ⌝ }
+    ensures { λ n. ⌜ readout n (now (energy .exit)) ≡ readBlock (λ r. answering (energyCall (epsOf r) (muOf r) r (now (e .entry)) (now (h .entry)) (now (media .entry))) (now (energy .entry))) (now (b .entry)) (answered zeroF (now (energy .entry))) ⌝ }
 {
     if !block::is_record(b) {
         blocks::answer(energy, 0.0);

@@ -55,7 +55,7 @@ fn standing() -> Record {
         dz: 0.0,
         dt: 0.0,
     };
-    opening::open_record(0, 0, 0, 0, spacings)
+    opening::open_record(0, 0, 0, 0, spacings, 0)
 }
 
 pub fn rewind(

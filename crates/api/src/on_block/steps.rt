@@ -1,15 +1,13 @@
 // One step, and many.
 ghost use mathlib.Core.Path.{_≡_};
-ghost use Rattle.root.specs.Constants.{eps0, mu0, c0};
+ghost use Rattle.grid.specs.Vacuum.{epsOf, muOf, lightOf};
 ghost use Rattle.grid.specs.Stores.{stores};
 ghost use Rattle.step.specs.Step.{stepCall};
 ghost use Rattle.run.specs.Run.{runCall};
 ghost use Rattle.calls.specs.Blocks.{sent, clockOnBlock};
 use calls::blocks;
 use grid::fault::BAD_STUDY;
-use root::C0;
-use root::EPS0;
-use root::MU0;
+use root::vacuum;
 
 pub fn step(
     b: &mut [u8],
@@ -24,16 +22,17 @@ pub fn step(
     aux: &mut [f64],
     ids: &[u32],
 ) -> u32
-    ensures { λ n. ⌜ sent n (now (b .exit)) (stores (now (e .exit)) (now (h .exit)) (now (media .entry)) (now («psi_e» .exit)) (now («psi_h» .exit)) (now (tables .entry)) (now (poles .exit)) (now (aux .exit)) (now (ids .entry))) ≡ clockOnBlock (λ r. stepCall eps0 mu0 c0 r sample (stores (now (e .entry)) (now (h .entry)) (now (media .entry)) (now («psi_e» .entry)) (now («psi_h» .entry)) (now (tables .entry)) (now (poles .entry)) (now (aux .entry)) (now (ids .entry)))) (now (b .entry)) (stores (now (e .entry)) (now (h .entry)) (now (media .entry)) (now («psi_e» .entry)) (now («psi_h» .entry)) (now (tables .entry)) (now (poles .entry)) (now (aux .entry)) (now (ids .entry))) ⌝ }
+    ensures { λ n. ⌜ sent n (now (b .exit)) (stores (now (e .exit)) (now (h .exit)) (now (media .entry)) (now («psi_e» .exit)) (now («psi_h» .exit)) (now (tables .entry)) (now (poles .exit)) (now (aux .exit)) (now (ids .entry))) ≡ clockOnBlock (λ r. stepCall (epsOf r) (muOf r) (lightOf r) r sample (stores (now (e .entry)) (now (h .entry)) (now (media .entry)) (now («psi_e» .entry)) (now («psi_h» .entry)) (now (tables .entry)) (now (poles .entry)) (now (aux .entry)) (now (ids .entry)))) (now (b .entry)) (stores (now (e .entry)) (now (h .entry)) (now (media .entry)) (now («psi_e» .entry)) (now («psi_h» .entry)) (now (tables .entry)) (now (poles .entry)) (now (aux .entry)) (now (ids .entry))) ⌝ }
 {
     if !block::is_record(b) {
         return BAD_STUDY;
     }
     let r = block::get_record(b);
+    let v = vacuum::chosen(r.constants);
     let o = clock::step_record(
-        EPS0,
-        MU0,
-        C0,
+        v.eps0,
+        v.mu0,
+        v.c0,
         r,
         sample,
         e,
@@ -63,16 +62,17 @@ pub fn run(
     aux: &mut [f64],
     ids: &[u32],
 ) -> u32
-    ensures { λ n. ⌜ sent n (now (b .exit)) (stores (now (e .exit)) (now (h .exit)) (now (media .entry)) (now («psi_e» .exit)) (now («psi_h» .exit)) (now (tables .entry)) (now (poles .exit)) (now (aux .exit)) (now (ids .entry))) ≡ clockOnBlock (λ r. runCall eps0 mu0 c0 r (now (samples .entry)) (stores (now (e .entry)) (now (h .entry)) (now (media .entry)) (now («psi_e» .entry)) (now («psi_h» .entry)) (now (tables .entry)) (now (poles .entry)) (now (aux .entry)) (now (ids .entry)))) (now (b .entry)) (stores (now (e .entry)) (now (h .entry)) (now (media .entry)) (now («psi_e» .entry)) (now («psi_h» .entry)) (now (tables .entry)) (now (poles .entry)) (now (aux .entry)) (now (ids .entry))) ⌝ }
+    ensures { λ n. ⌜ sent n (now (b .exit)) (stores (now (e .exit)) (now (h .exit)) (now (media .entry)) (now («psi_e» .exit)) (now («psi_h» .exit)) (now (tables .entry)) (now (poles .exit)) (now (aux .exit)) (now (ids .entry))) ≡ clockOnBlock (λ r. runCall (epsOf r) (muOf r) (lightOf r) r (now (samples .entry)) (stores (now (e .entry)) (now (h .entry)) (now (media .entry)) (now («psi_e» .entry)) (now («psi_h» .entry)) (now (tables .entry)) (now (poles .entry)) (now (aux .entry)) (now (ids .entry)))) (now (b .entry)) (stores (now (e .entry)) (now (h .entry)) (now (media .entry)) (now («psi_e» .entry)) (now («psi_h» .entry)) (now (tables .entry)) (now (poles .entry)) (now (aux .entry)) (now (ids .entry))) ⌝ }
 {
     if !block::is_record(b) {
         return BAD_STUDY;
     }
     let r = block::get_record(b);
+    let v = vacuum::chosen(r.constants);
     let o = run::run(
-        EPS0,
-        MU0,
-        C0,
+        v.eps0,
+        v.mu0,
+        v.c0,
         r,
         samples,
         e,

@@ -17,6 +17,7 @@ pub fn open(
     ny: usize,
     nz: usize,
     pole_slots: usize,
+    constants: usize,
     dx: f64,
     dy: f64,
     dz: f64,
@@ -31,10 +32,10 @@ pub fn open(
     aux: &mut [f64],
     ids: &mut [u32],
 ) -> u32
-    ensures { λ n. ⌜ sent n (now (b .exit)) (stores (now (e .exit)) (now (h .exit)) (now (media .exit)) (now («psi_e» .exit)) (now («psi_h» .exit)) (now (tables .exit)) (now (poles .exit)) (now (aux .exit)) (now (ids .exit))) ≡ openOnBlock nx ny nz «pole_slots» (record { dx = dx; dy = dy; dz = dz; dt = dt }) (now (b .entry)) (stores (now (e .entry)) (now (h .entry)) (now (media .entry)) (now («psi_e» .entry)) (now («psi_h» .entry)) (now (tables .entry)) (now (poles .entry)) (now (aux .entry)) (now (ids .entry))) ⌝ }
+    ensures { λ n. ⌜ sent n (now (b .exit)) (stores (now (e .exit)) (now (h .exit)) (now (media .exit)) (now («psi_e» .exit)) (now («psi_h» .exit)) (now (tables .exit)) (now (poles .exit)) (now (aux .exit)) (now (ids .exit))) ≡ openOnBlock nx ny nz «pole_slots» (record { dx = dx; dy = dy; dz = dz; dt = dt }) constants (now (b .entry)) (stores (now (e .entry)) (now (h .entry)) (now (media .entry)) (now («psi_e» .entry)) (now («psi_h» .entry)) (now (tables .entry)) (now (poles .entry)) (now (aux .entry)) (now (ids .entry))) ⌝ }
 {
     let spacings = Spacings { dx, dy, dz, dt };
-    let r = opening::open_record(nx, ny, nz, pole_slots, spacings);
+    let r = opening::open_record(nx, ny, nz, pole_slots, spacings, constants);
     // With no earlier fault it is 4, whatever stores are lent.
     if b.len() != BLOCK_LENGTH {
         return stores::lent_fault(fault::fault_of(r), false);
@@ -46,6 +47,7 @@ pub fn open(
         nz,
         pole_slots,
         spacings,
+        constants,
         e,
         h,
         media,

@@ -24,4 +24,4 @@ abbrev pub planWidths : List ℕ
 planWidths = sizeWidths ++ flagWidths ++ countWidths
 
 abbrev pub scaleWidths : List ℕ
-scaleWidths = cornerWidths ++ floatWidths ++ (4 ∷ [])
+scaleWidths = cornerWidths ++ floatWidths ++ (4 ∷ 1 ∷ [])

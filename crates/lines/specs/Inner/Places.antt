@@ -10,7 +10,6 @@ use Rattle.codec.specs.Bytes.{unle, bits}
 use Rattle.cells.specs.Cells.{joined}
 use Rattle.grid.specs.declared.Record.{Record}
 use Rattle.grid.specs.Stores.{cells}
-use Rattle.saves.specs.Inner.Places.{storesPlace}
 use Rattle.lines.specs.declared.fields.Fields.{Fields}
 use Rattle.lines.specs.Listing.{decimal, blank, ended, wordStudy, hex, cellLine}
 
@@ -45,11 +44,11 @@ gridText b f nx ny nz = joined nz (λ k. planeText b f nx ny k (nx * ny * k))
 abbrev pub sizesText : (nx ny nz : ℕ) → List ℕ
 sizesText nx ny nz = ended blank wordStudy ++ ended blank (decimal nx) ++ ended blank (decimal ny) ++ ended blank (decimal nz)
 
--- where a save of r has the fields: behind GH and ML six bytes before each payload, and 28 a cell in CI and CM
-abbrev pub fieldsOf : Record → Fields
-fieldsOf r = record {
-  electric = storesPlace (r .«material_count») + (18 + 28 * cells r);
-  magnetic = storesPlace (r .«material_count») + (24 + 52 * cells r);
+-- where a save of r has the fields, whose records of stores begin at a place: six bytes before each payload, and 28 a cell in CI and CM
+abbrev pub fieldsOf : (from : ℕ) → Record → Fields
+fieldsOf from r = record {
+  electric = from + (18 + 28 * cells r);
+  magnetic = from + (24 + 52 * cells r);
   cells = cells r;
 }
 

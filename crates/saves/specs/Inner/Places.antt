@@ -1,6 +1,6 @@
 -- The same records as code walks them: by places among the bytes. Definitions only.
 use Prim.Native.Nat.{ℕ, _+_, _*_, _≤_, _<_}
-use mathlib.Core.Bool.{Bool, cond}
+use mathlib.Core.Bool.{Bool, false, cond}
 use mathlib.Core.List.{List}
 use lib.ListN.{getD, drop}
 use Rattle.codec.specs.Bytes.{floatsOf, idsOf}
@@ -11,19 +11,26 @@ use Rattle.frames.specs.declared.Taken.the-variants.{Fault, At}
 use Rattle.frames.specs.Taking.{takenBy}
 use Rattle.grid.specs.declared.stores.Lengths.{Lengths}
 use Rattle.grid.specs.Stores.{Stores}
-use Rattle.heads.specs.Numbers.{ghLength, mlLength}
+use Rattle.heads.specs.Numbers.{mlLength}
 use Rattle.format.specs.Records.{Expected, recordFault}
-use Rattle.format.specs.Rewind.{floatsRecord}
+use Rattle.format.specs.Rewind.{sizeBy, floatsRecord}
 
--- where ML's record begins, behind GH's, and its materials; and where the records of the stores begin, behind it
+-- where ML's record begins, behind GH's, and its materials; and where the records of the stores begin, behind it: as they are read, with either GH
+abbrev pub listFrom : (old : Bool) → ℕ
+listFrom old = 6 + sizeBy old
+
+abbrev pub entriesFrom : (old : Bool) → ℕ
+entriesFrom old = listFrom old + 6
+
+abbrev pub storesFrom : (old : Bool) → (materials : ℕ) → ℕ
+storesFrom old m = entriesFrom old + mlLength * m
+
+-- as they are written
 abbrev pub listPlace : ℕ
-listPlace = 6 + ghLength
-
-abbrev pub entriesPlace : ℕ
-entriesPlace = listPlace + 6
+listPlace = listFrom false
 
 abbrev pub storesPlace : (materials : ℕ) → ℕ
-storesPlace m = entriesPlace + mlLength * m
+storesPlace m = storesFrom false m
 
 -- a record whose frame has no fault, its payload judged
 abbrev pub passedBy : (good : Bool) → (start next : ℕ) → Taken

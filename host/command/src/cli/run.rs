@@ -1,7 +1,7 @@
 //! `cichowiej run`.
 
 use super::{Failure, Input, print, stop_flag};
-use crate::curve::named;
+use crate::curve::{named, other_constants};
 use crate::script;
 use crate::standing::Save;
 use std::path::PathBuf;
@@ -26,6 +26,7 @@ pub fn run(arguments: &Arguments) -> Result<ExitCode, Failure> {
     let study = arguments.from.as_deref().map(|path| Ok::<_, String>(Save::from_file(path)?.study)).transpose()?;
     if let Some(study) = &study {
         print(&format!("from a save of {} steps, absorbing layer works on {}\n", study.steps(), named(study.active())))?;
+        other_constants(study.grid().constants).map_or(Ok(()), |line| print(&format!("{line}\n")))?;
     }
     let stop = stop_flag()?;
     script::run(study, &script, arguments.hex, &mut |answer| Ok(print(answer)?), &stop)?;

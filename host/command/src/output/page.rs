@@ -52,7 +52,8 @@ fn sheet_table(curve: &Curve) -> String {
         ["moisture %"].iter().chain(shares).map(|name| name.to_string()).chain(curve.frequencies.iter().flat_map(at)).collect();
     let rows = curve.rows.iter().map(|row| {
         let parts = row.sheet.shares.map(|parts| [parts.fibre, parts.water, parts.air]);
-        let eps = curve.frequencies.iter().map(|&f| row.sheet.material.permittivity(f)).flat_map(|eps| [eps.re, -eps.im]);
+        let eps = |&f: &f64| row.sheet.material.permittivity(f, curve.constants);
+        let eps = curve.frequencies.iter().map(eps).flat_map(|eps| [eps.re, -eps.im]);
         let numbers = parts.into_iter().flatten().chain(eps).map(|number| format!("{number:.4}"));
         [format!("{:.4}", row.sheet.moisture)].into_iter().chain(numbers).collect()
     });

@@ -1,6 +1,6 @@
 //! The curve as a picture for a report: transmission and phase over the moisture, readable in grey.
 
-use crate::curve::{Curve, Value};
+use crate::curve::{Curve, Value, other_constants};
 use crate::output::table::in_hertz;
 use plotters::coord::Shift;
 use plotters::prelude::*;
@@ -83,7 +83,7 @@ fn lines(area: &Area, text: &str, from: i32, size: i32, colour: RGBColor) -> Res
     Ok(from + lines.len() as i32 * (size + 4))
 }
 
-/// Title, what has to be known of the layer, warnings; answers where they end. A missing layer stands white in a dark band.
+/// Title, what has to be known of the layer and the constants, warnings; answers where they end. A missing layer stands white in a dark band.
 fn head(area: &Area, curve: &Curve) -> Result<i32, Box<dyn Error>> {
     let mut end = lines(area, &curve.title, 14, 24, BLACK)? + 4;
     if curve.layer_is_missing() {
@@ -93,6 +93,9 @@ fn head(area: &Area, curve: &Curve) -> Result<i32, Box<dyn Error>> {
         end = lines(area, &curve.told(), end + 6, 18, WHITE)? + 10;
     } else {
         end = lines(area, &curve.told(), end, 14, BLACK)?;
+    }
+    if let Some(line) = other_constants(curve.constants) {
+        end = lines(area, &line, end, 14, BLACK)?;
     }
     for warning in &curve.warnings {
         end = lines(area, &format!("warning: {warning}"), end, 14, BLACK)?;

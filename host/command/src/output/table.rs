@@ -1,6 +1,6 @@
 //! The curve as a table: for a person, and as CSV.
 
-use crate::curve::{Curve, Row};
+use crate::curve::{Curve, Row, other_constants};
 use std::fmt::Write;
 
 /// A frequency for a reader, with no more places than it has.
@@ -35,9 +35,10 @@ pub fn numbers(curve: &Curve) -> Vec<Vec<f64>> {
     curve.rows.iter().map(row).collect()
 }
 
-/// For a person, who has been told of the layer already: the warnings and the table.
+/// For a person, who has been told of the layer already: other constants than the old ones, the warnings and the table.
 pub fn text(curve: &Curve) -> String {
-    let mut out: String = curve.first_lines().skip(1).map(|line| line + "\n").collect();
+    let first = other_constants(curve.constants).into_iter().chain(curve.first_lines().skip(1));
+    let mut out: String = first.map(|line| line + "\n").collect();
     let head = columns(curve);
     let _ = writeln!(out, "\n{}", head.join("  "));
     for row in numbers(curve) {

@@ -1,8 +1,9 @@
 //! What a line of a script asks for.
 
 use super::words::{Words, read};
+use crate::head::constants;
 use crate::head::units::{Conductivity, Frequency, Length, Rate, Time};
-use cichowiej::{CellBox, CpmlConfig, Grid, Material, Pole, Source};
+use cichowiej::{CellBox, Constants, CpmlConfig, Grid, Material, Pole, Source};
 use std::path::PathBuf;
 
 #[derive(Debug, Clone)]
@@ -90,14 +91,24 @@ pub fn statement(kind: &str, words: &mut Words) -> Result<Statement, String> {
     })
 }
 
-/// Of `size`: the cells, and the pole slots.
-pub fn size(words: &mut Words) -> Result<([usize; 3], usize), String> {
-    let cells = [words.number("nx")?, words.number("ny")?, words.number("nz")?];
-    Ok((cells, words.number_or("poles", 0)?))
+/// What a line `size` has.
+pub struct Size {
+    cells: [usize; 3],
+    pole_slots: usize,
+    constants: Constants,
 }
 
-/// Of `pitch`: the cell's sizes and the time step, for cells that were given.
-pub fn grid(cells: [usize; 3], pole_slots: usize, words: &mut Words) -> Result<Grid, String> {
+/// Of `size`.
+pub fn size(words: &mut Words) -> Result<Size, String> {
+    let cells = [words.number("nx")?, words.number("ny")?, words.number("nz")?];
+    let named = |name| constants::read(name).map_err(|message| format!("constants: {message}"));
+    let constants = words.pair("constants").map_or(Ok(Constants::default()), named)?;
+    Ok(Size { cells, pole_slots: words.number_or("poles", 0)?, constants })
+}
+
+/// Of `pitch`: the cell's sizes and the time step, behind a `size`.
+pub fn grid(size: Size, words: &mut Words) -> Result<Grid, String> {
+    let Size { cells, pole_slots, constants } = size;
     let mut length = |what: &str| Length::read(words.needed(what)?);
     let dx = length("a length")?;
     let pitch = match words.next() {
@@ -106,10 +117,10 @@ pub fn grid(cells: [usize; 3], pole_slots: usize, words: &mut Words) -> Result<G
     };
     let dt = match (words.pair("dt"), words.pair("courant")) {
         (Some(dt), None) => Time::read(dt)?,
-        (None, Some(courant)) => read::<f64>(courant, "courant")? * Grid::largest_dt(pitch),
+        (None, Some(courant)) => read::<f64>(courant, "courant")? * constants.largest_dt(pitch),
         _ => return Err("it needs dt= or courant=, one of the two".into()),
     };
-    Ok(Grid { cells, pitch, dt, pole_slots })
+    Ok(Grid { cells, pitch, dt, pole_slots, constants })
 }
 
 fn material(words: &mut Words) -> Result<Statement, String> {

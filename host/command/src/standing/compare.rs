@@ -1,8 +1,11 @@
 //! In which records and cells two saves differ, and by how much.
 
 use crate::standing::list::{counted, product};
-use crate::standing::records::{Record, Shape, byte, count, double, records, short};
+use crate::standing::records::{Record, Shape, byte, constants, count, double, records, short};
 use cichowiej::MATERIAL_LENGTH;
+
+/// For two saves that differ in no number.
+const SAME_STUDY: &str = "the saves are of the same study; one is from an older library, which wrote no byte for the constants";
 
 /// The lines for two saves that the engine accepts.
 pub fn compare(first: &[u8], second: &[u8]) -> Option<String> {
@@ -16,6 +19,9 @@ pub fn compare(first: &[u8], second: &[u8]) -> Option<String> {
     if shapes[0].cells != shapes[1].cells {
         let [a, b] = shapes.map(|shape| product(shape.cells));
         lines.insert(0, format!("the sizes differ, {a} and {b} cells: what belongs to cells is not compared"));
+    }
+    if lines.is_empty() {
+        lines.push(SAME_STUDY.into());
     }
     Some(lines.iter().map(|line| format!("{line}\n")).collect())
 }
@@ -43,10 +49,11 @@ enum Kind {
     Short,
     Count,
     Double,
+    Constants,
 }
 
 /// The first record's fields and where they begin.
-const FIELDS: [(&str, usize, Kind); 26] = [
+const FIELDS: [(&str, usize, Kind); 27] = [
     ("nx", 0, Kind::Short),
     ("ny", 2, Kind::Short),
     ("nz", 4, Kind::Short),
@@ -73,6 +80,7 @@ const FIELDS: [(&str, usize, Kind); 26] = [
     ("dt", 53, Kind::Double),
     ("time", 61, Kind::Double),
     ("steps", 69, Kind::Count),
+    ("constants", 73, Kind::Constants),
 ];
 
 fn written(payload: &[u8], at: usize, kind: Kind) -> Option<String> {
@@ -84,6 +92,8 @@ fn written(payload: &[u8], at: usize, kind: Kind) -> Option<String> {
         Kind::Short => short(payload, at).map(|number| number.to_string()),
         Kind::Count => count(payload, at).map(|number| number.to_string()),
         Kind::Double => double(payload, at).map(|number| format!("{number:?}")),
+        // an older save has no byte for them
+        Kind::Constants => constants(payload).map(|constants| constants.to_string()),
     }
 }
 
@@ -181,10 +191,10 @@ fn numbers(shape: Shape, mark: &str, pairs: impl Iterator<Item = (f64, f64)>) ->
 #[cfg(test)]
 mod tests {
     use super::*;
-    use cichowiej::{CellBox, Grid, Material, Pole, Study};
+    use cichowiej::{CellBox, Constants, Grid, Material, Pole, Study};
 
     fn open(cells: [usize; 3], pole_slots: usize) -> Study {
-        Study::open(&Grid { cells, pitch: [1e-3; 3], dt: 1e-12, pole_slots }).unwrap()
+        Study::open(&Grid { cells, pitch: [1e-3; 3], dt: 1e-12, pole_slots, constants: Constants::Old }).unwrap()
     }
 
     fn compared(a: &Study, b: &Study) -> Vec<String> {
@@ -234,6 +244,31 @@ mod tests {
         assert!(
             lines.last().unwrap().starts_with("AX  ") && lines.last().unwrap().contains("ex of the incident wave at k = -18")
         );
+    }
+
+    #[test]
+    fn constants_are_named() {
+        let grid = Grid { constants: Constants::Si2019, ..open([1, 1, 9], 1).grid() };
+        let mut new = Study::open(&grid).unwrap();
+        assert_eq!(compared(&open([1, 1, 9], 1), &new), ["GH  constants: old and 2019"]);
+        new.set_periodic([false, false, true]).unwrap();
+        assert_eq!(compared(&new, &open([1, 1, 9], 1)), ["GH  periodic along z: yes and no", "GH  constants: 2019 and old"]);
+    }
+
+    /// A save of an older library is that of the same study with the old constants, and of no other.
+    #[test]
+    fn a_byte_less_is_no_difference() {
+        let old = |save: &[u8]| [b"GH", &[73, 0, 0, 0][..], &save[6..79], &save[80..]].concat();
+        let (a, mut b) = (open([1, 1, 9], 1), open([1, 1, 9], 1));
+        let [first, second] = [a.save().unwrap(), old(&a.save().unwrap())];
+        assert_eq!(compare(&second, &second).unwrap(), "the saves are equal\n");
+        for pair in [[&first, &second], [&second, &first]] {
+            assert_eq!(compare(pair[0], pair[1]).unwrap(), format!("{SAME_STUDY}\n"));
+        }
+        b.set_periodic([true, false, false]).unwrap();
+        assert_eq!(compare(&second, &b.save().unwrap()).unwrap(), "GH  periodic along x: no and yes\n");
+        let new = Study::open(&Grid { constants: Constants::Si2019, ..a.grid() }).unwrap();
+        assert_eq!(compare(&second, &new.save().unwrap()).unwrap(), "GH  constants: old and 2019\n");
     }
 
     #[test]

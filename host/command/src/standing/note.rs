@@ -92,10 +92,11 @@ pub fn plain(text: &str) -> String {
 #[cfg(test)]
 mod tests {
     use super::*;
-    use cichowiej::Grid;
+    use cichowiej::{Constants, Grid};
 
     fn note(label: &str, time: f64) -> Note {
-        let study = Study::open(&Grid { cells: [1, 2, 3], pitch: [1e-3; 3], dt: 1e-12, pole_slots: 0 }).unwrap();
+        let grid = Grid { cells: [1, 2, 3], pitch: [1e-3; 3], dt: 1e-12, pole_slots: 0, constants: Constants::Old };
+        let study = Study::open(&grid).unwrap();
         let words = Words { label: Some(label.into()), grew_from: Some("ab".repeat(32)) };
         Note { time, ..Note::new(&study, 5000, date::text(951_782_400), words) }
     }

@@ -1,12 +1,14 @@
 //! A save's records, and what each of their numbers is (document 01, "The save").
 
-use cichowiej::LINE_PAD;
+use cichowiej::{Constants, LINE_PAD};
 
 /// In their order.
 pub const MARKS: [&str; 11] = ["GH", "ML", "CI", "CM", "FE", "FH", "LE", "LH", "LT", "PP", "AX"];
 
-const GRID_LENGTH: usize = 73;
-/// The first record with its frame.
+/// The first record's payload ends in the constants. A save of an older library has no byte for them, and the old ones.
+const GRID_LENGTH: usize = 74;
+const OLD_GRID_LENGTH: usize = 73;
+/// The first record with its frame, where it is longest.
 pub const FIRST_RECORD: u64 = 6 + GRID_LENGTH as u64;
 
 /// A record: its mark and its payload.
@@ -50,6 +52,15 @@ pub fn byte(payload: &[u8], at: usize) -> Option<usize> {
     payload.get(at).map(|byte| usize::from(*byte))
 }
 
+/// Those of a first record's payload; None where it has another length than such a payload, or another number.
+pub fn constants(grid: &[u8]) -> Option<Constants> {
+    match grid.len() {
+        OLD_GRID_LENGTH => Some(Constants::Old),
+        GRID_LENGTH => Constants::numbered(byte(grid, OLD_GRID_LENGTH)?),
+        _ => None,
+    }
+}
+
 /// What the first record says of the others.
 #[derive(Debug, Clone, Copy, PartialEq, Eq)]
 pub struct Shape {
@@ -62,9 +73,7 @@ impl Shape {
     /// From a save or its beginning.
     pub fn of_save(save: &[u8]) -> Option<Self> {
         let grid = take("GH", &mut &*save)?.payload;
-        if grid.len() != GRID_LENGTH {
-            return None;
-        }
+        constants(grid)?;
         let cells = [short(grid, 0)?, short(grid, 2)?, short(grid, 4)?];
         Some(Self { cells, pole_slots: byte(grid, 14)?, steps: count(grid, 69)? as usize })
     }
@@ -142,17 +151,33 @@ mod tests {
 
     #[test]
     fn a_save_is_its_records() {
-        let grid = Grid { cells: [2, 3, 4], pitch: [1e-3; 3], dt: 1e-12, pole_slots: 2 };
+        let grid = Grid { cells: [2, 3, 4], pitch: [1e-3; 3], dt: 1e-12, pole_slots: 2, constants: Constants::Si2019 };
         let save = Study::open(&grid).unwrap().save().unwrap();
         let found = records(&save).unwrap();
         let (n, l) = (24, 9);
-        let lengths = [73, 125, 4 * n, 24 * n, 24 * n, 24 * n, 48 * n, 48 * n, 48 * l, 8 * (6 * 2 + 3) * n, 16 * (4 + 48)];
+        let lengths = [74, 125, 4 * n, 24 * n, 24 * n, 24 * n, 48 * n, 48 * n, 48 * l, 8 * (6 * 2 + 3) * n, 16 * (4 + 48)];
         let payloads: Vec<usize> = found.iter().map(|record| record.payload.len()).collect();
         assert_eq!(payloads, lengths);
         assert_eq!(lengths.iter().sum::<usize>() + 6 * 11, save.len());
         assert_eq!(Shape::of_save(&save), Some(Shape { cells: [2, 3, 4], pole_slots: 2, steps: 0 }));
         for end in 0..save.len() {
             assert!(records(&save[..end]).is_none());
+        }
+    }
+
+    /// The first record of an older library's save has no byte for the constants.
+    #[test]
+    fn saves_of_both_lengths_are_saves() {
+        let grid = Grid { cells: [2, 3, 4], pitch: [1e-3; 3], dt: 1e-12, pole_slots: 2, constants: Constants::Old };
+        let save = Study::open(&grid).unwrap().save().unwrap();
+        let with = |length: u8, at: usize, bytes: &[u8]| [b"GH", &[length, 0, 0, 0][..], &save[6..at], bytes].concat();
+        let shape = Shape::of_save(&save);
+        assert!(shape.is_some() && FIRST_RECORD == 80);
+        for first in [with(74, 79, &[0]), with(74, 79, &[1]), with(73, 79, &[]), with(73, 79, b"M")] {
+            assert_eq!(Shape::of_save(&first), shape, "{first:?}");
+        }
+        for first in [with(74, 79, &[2]), with(74, 79, &[]), with(75, 79, &[0, 0]), with(72, 78, &[])] {
+            assert_eq!(Shape::of_save(&first), None, "{first:?}");
         }
     }
 

@@ -63,6 +63,7 @@ fn of_save(save: &Save) -> Result<Vec<Named>, String> {
         ("pitch", format!("{dx:?}, {dy:?}, {dz:?} m")),
         ("dt", format!("{:?} s", grid.dt)),
         ("Courant number", format!("{:.6}", grid.courant_number())),
+        ("constants", grid.constants.to_string()),
         ("periodic", named(study.periodic())),
         ("layer works on", named(study.active())),
         ("pole slots", grid.pole_slots.to_string()),

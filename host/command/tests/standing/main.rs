@@ -173,6 +173,7 @@ fn a_save_is_shown() {
     assert_eq!(value("cells"), "1x1x20");
     assert_eq!(value("pitch"), "0.001, 0.001, 0.001 m");
     assert_eq!(value("Courant number"), "0.500000");
+    assert_eq!(value("constants"), "old");
     assert_eq!(value("periodic"), "no axis");
     assert_eq!(value("layer works on"), "no axis");
     assert_eq!(value("pole slots"), "1");
@@ -198,6 +199,37 @@ fn two_saves_are_compared() {
     assert!(place.good(&["compare", &first, &longer]).starts_with("the sizes differ, 1x1x20 and 1x1x21 cells"));
     place.flip(&second, 40);
     assert!(place.bad(&["compare", &first, &second]).contains("its SHA-256 is "));
+}
+
+/// A save from before there was a choice of constants, kept, and taken up and kept again: a byte more, and the same study.
+#[test]
+fn older_saves_are_kept_as_they_are() {
+    let place = Place::new();
+    fs::write(place.path("nothing.script"), "").unwrap();
+    for (name, id) in [("small", "14f2999ed2af"), ("poles", "32a0c770593f"), ("nan", "5b9a16a90999")] {
+        let path = format!("{}/../../oracle/compare/old/{name}.save", env!("CARGO_MANIFEST_DIR"));
+        let bytes = fs::read(&path).unwrap();
+        let old = place.good(&["keep", &path, "--label", name]).trim().to_string();
+        assert_eq!(old, id, "{name} is not the save that the library before wrote");
+        assert!(fs::read(place.kept(&old, ".save")).unwrap() == bytes);
+        let study = Study::from_save(&bytes).unwrap();
+        let [nx, ny, nz] = study.grid().cells;
+        let sizes = format!("{nx}x{ny}x{nz}  {} step", study.steps());
+        assert!(place.good(&["list"]).lines().any(|line| line.contains(&sizes) && line.ends_with(name)), "{name}");
+        let shown = place.good(&["show", &old]);
+        assert!(shown.contains("constants       old\n") && shown.contains(&format!("length          {} bytes\n", bytes.len())));
+        let new = place.good(&["resume", &old, "nothing.script"]).trim().to_string();
+        assert_eq!(fs::read(place.kept(&new, ".save")).unwrap().len(), bytes.len() + 1);
+        let told = "the saves are of the same study; one is from an older library, which wrote no byte for the constants\n";
+        assert_eq!(place.good(&["compare", &old, &new]), told);
+        assert_eq!(place.good(&["compare", &old, &old]), "the saves are equal\n");
+        // without its note the list reads the save itself, its beginning alone
+        fs::remove_file(place.kept(&old, ".toml")).unwrap();
+        let listed = place.good(&["list"]);
+        assert!(listed.lines().any(|line| line.contains(&sizes) && line.ends_with("(no note)")), "{listed}");
+        place.good(&["keep", &path]);
+    }
+    assert_eq!(place.good(&["verify"]), "6 saves, 0 damaged\n");
 }
 
 #[test]

@@ -1,7 +1,7 @@
 //! A folder to work in, and the commands run in it.
 
 use assert_cmd::cargo::cargo_bin;
-use cichowiej::{Grid, Study};
+use cichowiej::{Constants, Grid, Study};
 use std::collections::BTreeMap;
 use std::fs;
 use std::path::PathBuf;
@@ -28,8 +28,8 @@ impl Place {
 
     /// A save of so many cells and steps.
     pub fn save(&self, name: &str, cells: usize, steps: usize) {
-        let pitch = [1e-3; 3];
-        let grid = Grid { cells: [1, 1, cells], pitch, dt: 0.5 * Grid::largest_dt(pitch), pole_slots: 1 };
+        let (pitch, constants) = ([1e-3; 3], Constants::Old);
+        let grid = Grid { cells: [1, 1, cells], pitch, dt: 0.5 * constants.largest_dt(pitch), pole_slots: 1, constants };
         let mut study = Study::open(&grid).unwrap();
         study.injector_z(3).unwrap();
         study.run(&vec![1.0; steps]).unwrap();

@@ -1,6 +1,6 @@
 //! Other values for fields of GH and ML, at their limits and past them.
 
-use crate::engine::block::{DOUBLES, MATERIAL, PLACES, Record};
+use crate::engine::block::{CONSTANTS, DOUBLES, MATERIAL, PLACES, Record};
 use crate::{EDGES, FRACTION, Random, SIGN};
 
 /// A field's place in its record, and a value for it.
@@ -34,7 +34,7 @@ pub fn head_field(random: &mut Random, record: &Record) -> Field {
     let axis = random.index(3);
     let (count, side) = (record.material_count, record.sizes[axis] as u16);
     let one_of = |random: &mut Random, values: &[u8]| vec![values[random.index(values.len())]];
-    match random.below(10) {
+    match random.below(11) {
         0 => {
             let sizes = [0, 1, 511, 512, 513, u16::MAX, side - 1, side + 1];
             (2 * axis, sizes[random.index(8)].to_le_bytes().to_vec())
@@ -66,6 +66,8 @@ pub fn head_field(random: &mut Random, record: &Record) -> Field {
             (17 + 4 * axis + 2 * random.index(2), corner)
         }
         8 => (DOUBLES[random.index(DOUBLES.len())], edge(random)),
+        // GH's last byte; in an old save the first letter of the next mark
+        9 => (CONSTANTS, one_of(random, &[0, 1, 2, 3, 128, 255])),
         _ => {
             let steps = [0, 1, u32::MAX, random.bits() as u32][random.index(4)];
             (69, steps.to_le_bytes().to_vec())

@@ -1,14 +1,16 @@
 //! The study record as the block's bytes, both ways. The header has the table of offsets.
 
-pub const LENGTH: usize = 2073;
-pub const HEAD: usize = 73;
+pub const LENGTH: usize = 2074;
+pub const HEAD: usize = 74;
 pub const MATERIAL: usize = 125;
 pub const MATERIALS: usize = 16;
 pub const PLACES: usize = 4;
-/// Where the active flags, the time and the steps stand; the clock ends where the head does.
+/// Where the active flags, the time, the steps and the constants stand. The constants are one byte, the head's last,
+/// and the clock ends where they begin.
 pub const ACTIVE: usize = 9;
 pub const TIME: usize = 61;
 pub const STEPS: usize = 69;
+pub const CONSTANTS: usize = 73;
 /// Where doubles stand in the head, and in a material up to its first place.
 pub const DOUBLES: [usize; 5] = [29, 37, 45, 53, 61];
 
@@ -52,6 +54,8 @@ pub struct Record {
     pub spacings: [f64; 4],
     pub time: f64,
     pub steps: u32,
+    /// 0 the older SI values, 1 those of 2019.
+    pub constants: u8,
     /// The counted ones, 16 at most.
     pub materials: Vec<Material>,
 }
@@ -133,6 +137,7 @@ impl Reader<'_> {
             spacings: [0; 4].map(|_| self.double()),
             time: self.double(),
             steps: self.number(4) as u32,
+            constants: self.number(1) as u8,
             materials: Vec::new(),
         }
     }
@@ -221,6 +226,7 @@ impl Record {
             out.extend(double(x));
         }
         out.extend(self.steps.to_le_bytes());
+        out.push(self.constants);
         for material in &self.materials {
             out.extend(material.bytes(double));
         }

@@ -47,7 +47,12 @@ impl Study {
 
     /// Puts another number of steps into the block.
     pub fn put_steps(&mut self, steps: u32) {
-        self.block[block::STEPS..block::HEAD].copy_from_slice(&steps.to_le_bytes());
+        self.block[block::STEPS..block::CONSTANTS].copy_from_slice(&steps.to_le_bytes());
+    }
+
+    /// Puts another set of constants into the block, or a number that names none.
+    pub fn put_constants(&mut self, constants: u8) {
+        self.block[block::CONSTANTS] = constants;
     }
 
     /// Names other axes as active in the block.

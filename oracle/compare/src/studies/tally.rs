@@ -10,7 +10,8 @@ use crate::report;
 
 #[derive(Default)]
 pub struct Tally {
-    pub studies: u64,
+    /// By the constants that they were opened with.
+    pub studies: [u64; 2],
     calls: BTreeMap<String, u64>,
     refusals: BTreeMap<u32, u64>,
     steps: BTreeMap<&'static str, u64>,
@@ -78,14 +79,17 @@ impl Tally {
             ("with a region from k0 = 0", kind != 0 && k0 == 0),
             ("with a region up to k1 = nz - 1", kind != 0 && k1 == top),
         ];
-        for (name, _) in kinds.into_iter().filter(|(_, holds)| *holds) {
+        let kinds = kinds.into_iter().chain(by_constants(&record));
+        for (name, _) in kinds.filter(|(_, holds)| *holds) {
             *self.steps.entry(name).or_default() += 1;
         }
     }
 
     /// Takes in what another one has counted.
     pub fn join(&mut self, other: Self) {
-        self.studies += other.studies;
+        for (studies, more) in self.studies.iter_mut().zip(other.studies) {
+            *studies += more;
+        }
         add(&mut self.calls, other.calls);
         add(&mut self.refusals, other.refusals);
         add(&mut self.steps, other.steps);
@@ -94,9 +98,9 @@ impl Tally {
 
     pub fn report(&self) {
         let calls: u64 = self.calls.values().sum();
+        let [old, new] = self.studies;
         report(&format!(
-            "studies: {} of {calls} calls, every store equal after every call",
-            self.studies
+            "studies: {old} opened with the older constants and {new} with those of 2019, {calls} calls, every store equal after every call"
         ));
         report(&format!("  calls {:?}", self.calls));
         report(&format!("  answers {:?}", self.refusals));
@@ -111,9 +115,10 @@ impl Tally {
     /// call of the engine on a block with another NaN too.
     pub fn is_varied(&self) -> bool {
         let of_the_engine = 21;
-        self.calls.len() == of_the_engine + 7
-            && self.refusals.len() == 10
-            && self.steps.len() == 19
+        !self.studies.contains(&0)
+            && self.calls.len() == of_the_engine + 8
+            && self.refusals.len() == 11
+            && self.steps.len() == 23
             && self.on_another_nan.len() == of_the_engine
     }
 }
@@ -122,6 +127,24 @@ fn add<K: Ord>(counts: &mut BTreeMap<K, u64>, more: BTreeMap<K, u64>) {
     for (key, n) in more {
         *counts.entry(key).or_default() += n;
     }
+}
+
+/// Which constants a step goes by; poles and the line have uses of their own.
+fn by_constants(record: &Record) -> [(&'static str, bool); 4] {
+    let new = record.constants == 1;
+    let poles = record.materials.iter().any(|m| m.pole_count != 0);
+    [
+        ("with the older constants", !new),
+        ("with the constants of 2019", new),
+        (
+            "with those of 2019 and poles",
+            new && poles && record.built_count != 0,
+        ),
+        (
+            "with those of 2019 and a region",
+            new && record.region.kind != 0,
+        ),
+    ]
 }
 
 /// Whether materials are built of which none has a pole.

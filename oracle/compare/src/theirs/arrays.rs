@@ -2,18 +2,17 @@
 
 use std::ops::Range;
 
-use phyz_em::cpml::{AxisCoeffs, Cpml, CpmlConfig};
-use phyz_em::grid::Array3D;
-
 use super::materials::engine_material;
-use super::{THICK, Theirs};
-use crate::engine::block::{HEAD, Record, Region, TIME};
+use super::original::cpml::{AxisCoeffs, Cpml, CpmlConfig};
+use super::original::grid::Array3D;
+use super::{Side, THICK};
+use crate::engine::block::{CONSTANTS, Record, Region, TIME};
 
-impl Theirs {
+impl Side {
     /// What `run` has left: every array, and the clock.
     pub fn read(&mut self) {
         self.read_arrays();
-        self.write_block(TIME..HEAD);
+        self.write_block(TIME..CONSTANTS);
     }
 
     /// These bytes of the block that is expected, as the original now stands.
@@ -77,6 +76,7 @@ impl Theirs {
             spacings: [grid.dx, grid.dy, grid.dz, grid.dt],
             time: self.time,
             steps: self.steps,
+            constants: self.constants,
             materials: grid.materials.iter().map(engine_material).collect(),
         }
     }
@@ -148,10 +148,23 @@ pub fn tables_of(axis: &mut AxisCoeffs) -> [&mut Vec<f64>; 6] {
 }
 
 /// The tables that the original computes for a layer, in store order.
-pub fn built_tables(record: &Record, mut config: CpmlConfig) -> Vec<f64> {
-    config.thickness = config.thickness.min(THICK);
+pub fn built_tables(record: &Record, config: &phyz_em::cpml::CpmlConfig) -> Vec<f64> {
     let ([nx, ny, nz], [dx, dy, dz, dt]) = (record.sizes, record.spacings);
-    let mut layer = Cpml::new(nx, ny, nz, dx, dy, dz, dt, config);
+    let mut layer = Cpml::new(nx, ny, nz, dx, dy, dz, dt, own(config));
     let tables = layer.axis.iter_mut().flat_map(tables_of);
     tables.flat_map(|table| table.clone()).collect()
+}
+
+/// The settings of a layer as this copy of the original has them.
+fn own(config: &phyz_em::cpml::CpmlConfig) -> CpmlConfig {
+    CpmlConfig {
+        thickness: config.thickness.min(THICK),
+        order: config.order,
+        kappa_max: config.kappa_max,
+        alpha_factor: config.alpha_factor,
+        alpha_order: config.alpha_order,
+        target_reflection: config.target_reflection,
+        sigma_scale: config.sigma_scale,
+        axes: config.axes,
+    }
 }

@@ -1,26 +1,41 @@
 //! The caller's own writing into block and stores, followed on the original's side.
 
-use phyz_em::dispersion::DispersiveState;
-use phyz_em::grid::Array3D;
-use phyz_em::tfsf::Tfsf;
-
-use super::Theirs;
+use super::Side;
 use super::materials::original_material;
+use super::original::cpml::{Cpml, CpmlConfig};
+use super::original::dispersion::DispersiveState;
+use super::original::grid::Array3D;
+use super::original::tfsf::Tfsf;
 use crate::call::Call;
+use crate::engine::Study;
 use crate::engine::block::Region;
 
-impl Theirs {
+impl Side {
+    /// The original set up as a block and stores say, whatever has led to them.
+    pub fn of(study: &Study) -> Self {
+        let record = study.record().unwrap();
+        let (slots, constants) = (record.pole_slots.into(), record.constants.into());
+        let mut side = Self::open(record.sizes, slots, constants, record.spacings);
+        side.expected = study.clone();
+        side.grid.periodic = record.periodic;
+        side.grid.materials = record.materials.iter().map(original_material).collect();
+        (side.time, side.steps) = (record.time, record.steps);
+        side.built_count = record.built_count;
+        side.put_dispersion();
+        side.put_region(record.region);
+        if record.layer_on {
+            side.put_layer(record.active);
+        }
+        side.write();
+        side
+    }
+
     /// Written by hand into what is expected, and the original set up as block and stores then say.
     pub(super) fn write_by_hand(&mut self, call: &Call) {
         self.expected.write_by_hand(call);
         match call {
             Call::PutSteps(steps) => self.steps = *steps,
-            Call::PutActive(axes) => {
-                let layer = self.grid.cpml.as_mut().unwrap();
-                for (axis, active) in layer.axis.iter_mut().zip(axes) {
-                    axis.active = *active;
-                }
-            }
+            Call::PutActive(axes) => self.put_layer(*axes),
             Call::PutTime(time) => {
                 self.time = *time;
                 if let Some((_, wave)) = &mut self.wave {
@@ -36,9 +51,23 @@ impl Theirs {
                 self.put_dispersion();
             }
             Call::PutRegion(region) => self.put_region(*region),
+            Call::PutConstants(constants) => self.constants = *constants,
             _ => {}
         }
         self.write();
+    }
+
+    /// A layer with these axes active; its memories and tables are the stores'.
+    fn put_layer(&mut self, axes: [bool; 3]) {
+        let grid = &self.grid;
+        let off = CpmlConfig::default().on_axes([false; 3]);
+        let mut layer = Cpml::new(
+            grid.nx, grid.ny, grid.nz, grid.dx, grid.dy, grid.dz, grid.dt, off,
+        );
+        for (axis, active) in layer.axis.iter_mut().zip(axes) {
+            axis.active = active;
+        }
+        self.grid.cpml = Some(layer);
     }
 
     /// As many materials built as the block says, whether one of them has a pole or not. Every slot of the

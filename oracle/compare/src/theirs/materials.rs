@@ -1,7 +1,6 @@
 //! Materials as the original has them and as a block has them.
 
-use phyz_em::dispersion::{self, DispersiveMaterial};
-
+use super::original::dispersion::{self, DispersiveMaterial};
 use crate::engine::block::{Material, Pole};
 
 pub fn original_material(m: &Material) -> DispersiveMaterial {
@@ -30,6 +29,10 @@ fn original_pole(pole: &Pole) -> dispersion::Pole {
             tau: y,
         },
     }
+}
+
+pub fn ade_coeffs(pole: &Pole, dt: f64) -> [f64; 3] {
+    original_pole(pole).ade_coeffs(dt).into()
 }
 
 pub fn engine_material(m: &DispersiveMaterial) -> Material {

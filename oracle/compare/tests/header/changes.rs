@@ -15,8 +15,9 @@ use std::process::{Command, Stdio};
 use std::thread;
 
 /// What holds no number of the header's own is left out.
-const THEMES: [&str; 17] = [
+const THEMES: [&str; 18] = [
     "bytes",
+    "constants",
     "record",
     "lengths",
     "refusals",

@@ -68,7 +68,7 @@ fn understood(program: &Path) {
         format!("plane 5: refusal 0, {:016X}", 6f64.to_bits()),
         format!("plane 40: refusal 17, {:016X}", 0f64.to_bits()),
         format!("energy: refusal 0, {:016X}", energy.to_bits()),
-        "save length: refusal 0, 11528".to_string(),
+        "save length: refusal 0, 11529".to_string(),
         "save: refusal 0, GH".to_string(),
         "save, no room: refusal 12".to_string(),
         format!("rewind, short: refusal 13, {:016X}", 0f64.to_bits()),
@@ -126,5 +126,5 @@ macro_rules! themes {
 
 themes! {
     limits refusals precedence record materials poles lengths parts tables walls regions effects steps saves pointers
-    wrappers bytes nans overlap
+    wrappers bytes nans overlap constants
 }

@@ -43,6 +43,7 @@ impl List {
             let record = self.run.study().record().unwrap();
             self.chooser.sizes = record.sizes;
             self.chooser.pole_slots = record.pole_slots.into();
+            self.chooser.constants = record.constants.into();
             self.chooser.spacings = record.spacings;
         }
     }
@@ -175,7 +176,7 @@ impl List {
     /// To a save that is damaged: refused, or else left.
     fn damaged(&mut self) {
         let damage = DAMAGES[self.random.index(DAMAGES.len())];
-        let sound = Sound::new(self.run.study());
+        let sound = Sound::any(&mut self.random, self.run.study());
         let bytes = sound.damaged(&mut self.random, damage, &sound);
         let call = Call::Rewind(Bytes(bytes));
         if judge::refusal(self.run.study(), &call) != 0 {
@@ -192,12 +193,13 @@ impl List {
 }
 
 /// Calls that are refused for an argument alone, whatever stands.
-fn wrong(record: &Record) -> [Call; 9] {
+fn wrong(record: &Record) -> [Call; 10] {
     let (sizes, spacings) = (record.sizes, record.spacings);
     let pole_slots = usize::from(record.pole_slots);
-    let open = |sizes, pole_slots, spacings| Call::Open {
+    let open = |sizes, pole_slots, constants, spacings| Call::Open {
         sizes,
         pole_slots,
+        constants,
         spacings,
     };
     let pole = Pole {
@@ -212,9 +214,10 @@ fn wrong(record: &Record) -> [Call; 9] {
         poles: vec![pole; pole_slots + 1],
     };
     [
-        open([sizes[0], 0, 513], pole_slots, spacings),
-        open(sizes, pole_slots, [1.0, 1.0, 1.0, f64::NAN]),
-        open(sizes, 5, spacings),
+        open([sizes[0], 0, 513], pole_slots, 0, spacings),
+        open(sizes, pole_slots, 1, [1.0, 1.0, 1.0, f64::NAN]),
+        open(sizes, 5, 0, spacings),
+        open(sizes, pole_slots, 2, spacings),
         Call::AddMaterial(material),
         Call::AssignBox {
             id: record.material_count.into(),
@@ -242,11 +245,12 @@ fn few(random: &mut Random) -> [usize; 3] {
 /// A block or a store as no call of the run has left it.
 fn spoil(random: &mut Random, study: &mut Study) {
     let mut record = study.record().unwrap();
-    match random.below(8) {
+    match random.below(9) {
         0 => study.block.fill_with(|| random.bits() as u8),
         1 => study.block.truncate(random.index(LENGTH)),
         2 => study.block[random.index(LENGTH)] ^= 1 << random.below(8),
         3 => study.put_steps(u32::MAX),
+        8 => study.put_constants(2 + random.index(254) as u8),
         4 => spoil_a_store(random, study),
         5 => {
             record.material_count = 16;

@@ -15,8 +15,8 @@ use compare::difference::first_difference;
 use compare::engine::Study;
 use compare::{Random, complaint, save, sound, variable};
 use list::List;
-use run::{Made, Run, made};
-use tally::{FURTHER, Tally};
+use run::{Made, Run, Saved, made};
+use tally::Tally;
 
 const LISTS: u64 = 400;
 const FURTHER_CALLS: usize = 6;
@@ -76,6 +76,14 @@ fn compared(random: &mut Random, run: &Run) -> [Study; 2] {
     [study.clone(), other]
 }
 
+/// A save as it was written or, where it can be, as it was before there were constants.
+fn either_form(random: &mut Random, saved: &Saved) -> Vec<u8> {
+    match saved.constants {
+        0 if random.once_in(2) => save::old(&saved.bytes),
+        _ => saved.bytes.clone(),
+    }
+}
+
 /// Further calls get equal answers from both, whatever they are.
 fn further(list: &mut List, mut both: [Study; 2]) {
     for _ in 0..FURTHER_CALLS {
@@ -83,13 +91,14 @@ fn further(list: &mut List, mut both: [Study; 2]) {
         let call = match list.random.below(4) {
             0 if !saves.is_empty() => {
                 let saved = &saves[list.random.index(saves.len())];
-                Call::Rewind(Bytes(saved.bytes.clone()))
+                Call::Rewind(Bytes(either_form(&mut list.random, saved)))
             }
             1 => list.chooser.opening(),
             _ => list.call(),
         };
         let [(a, first), (b, second)] = both.each_ref().map(|study| made(study, &call));
         assert!(first.agrees(&second), "{call:?} answers otherwise");
+        list.tally.further(&call, first.refusal);
         both = [a, b];
     }
     equal(&both[0], &both[1]);
@@ -111,7 +120,6 @@ fn play(seed: u64, tally: Tally) -> Tally {
     }
     let standing = list.run.copies.list.len();
     list.tally.end(list.run.study(), standing);
-    list.tally.meet(FURTHER, FURTHER_CALLS);
     list.tally
 }
 
@@ -132,9 +140,10 @@ fn lists() {
 fn a_worked_list() {
     let mut tally = Tally::default();
     let mut run = Run::default();
-    let open = |sizes| Call::Open {
+    let open = |sizes, constants| Call::Open {
         sizes,
         pole_slots: 0,
+        constants,
         spacings: [1.0; 4],
     };
     let lent = |sizes| Some(Study::lent(sizes, 0));
@@ -142,9 +151,9 @@ fn a_worked_list() {
         (run.make(call, lent, &mut tally), run.saves.last().cloned())
     };
     let [two, four] = [[1, 1, 2], [4, 1, 1]];
-    let room = 1_648;
+    let room = 1_649;
 
-    assert_eq!(make(open(two), lent(two)).0, 0); // 0
+    assert_eq!(make(open(two, 0), lent(two)).0, 0); // 0
     assert_eq!(make(Call::Injector { k0: 0 }, None).0, 0); // 1
     assert_eq!(make(Call::Step(1.0), None).0, 0); // 2
     let (refusal, first) = make(Call::Save(room), None); // 3
@@ -163,7 +172,7 @@ fn a_worked_list() {
     let (refusal, third) = make(Call::Save(room + 9), None); // 8
     assert_eq!(refusal, 0);
     let third = third.unwrap().bytes;
-    assert_eq!(make(open(four), lent(four)).0, 0); // 9
+    assert_eq!(make(open(four, 1), lent(four)).0, 0); // 9
     assert_eq!(make(Call::Step(5.0), None).0, 0); // 10
     assert_eq!(make(Call::Rewind(Bytes(third.clone())), None).0, 4);
     assert_eq!(make(Call::Rewind(Bytes(third)), lent(two)).0, 0);

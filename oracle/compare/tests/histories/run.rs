@@ -1,7 +1,7 @@
 //! Run A: every call is made, and the calls that stand are kept by document 01's rules.
 
 use crate::rule::{Copies, Tree};
-use crate::tally::{ABANDONED, ACROSS, EQUAL_SAVES, LATEST, Tally};
+use crate::tally::{ABANDONED, ACROSS, EQUAL_SAVES, LATEST, OTHER, Tally};
 use compare::call::{Bytes, Call};
 use compare::difference::untouched;
 use compare::engine::{Answer, BEFORE, Study};
@@ -20,6 +20,7 @@ pub struct Saved {
     pub bytes: Vec<u8>,
     pub sizes: [usize; 3],
     pub pole_slots: usize,
+    pub constants: u8,
 }
 
 #[derive(Default)]
@@ -110,6 +111,7 @@ impl Run {
             bytes: bytes.clone(),
             sizes: record.sizes,
             pole_slots: record.pole_slots.into(),
+            constants: record.constants,
         });
         bytes
     }
@@ -121,6 +123,7 @@ impl Run {
         let stands = same.iter().any(|s| self.copies.list.contains(&s.call));
         tally.meet(ACROSS, (record.sizes != saved.sizes).into());
         tally.meet(ABANDONED, (!stands).into());
+        tally.meet(OTHER, (record.constants != saved.constants).into());
         let lists = self.copies.of(bytes);
         tally.meet(LATEST, (lists[0] != lists[lists.len() - 1]).into());
     }

@@ -3,6 +3,7 @@
 use compare::call::Call;
 use compare::engine::Study;
 use compare::report;
+use compare::save::is_old;
 use std::collections::BTreeMap;
 
 #[derive(Default)]
@@ -19,10 +20,14 @@ pub const LATEST: &str = "rewinds to bytes with several histories";
 pub const ACROSS: &str = "rewinds across an opening of other sizes";
 pub const ABANDONED: &str = "rewinds to a save that stands no more";
 const STANDING: &str = "calls that stand at the end";
-pub const FURTHER: &str = "further calls";
+const FURTHER: &str = "further calls";
 const FINITE: &str = "ends with finite fields that are not all zero";
 const NANS: &str = "ends with a NaN in a field";
-const ALL: [&str; 8] = [
+const OLDER: &str = "ends with the older constants";
+const NEW: &str = "ends with the constants of 2019";
+pub const OTHER: &str = "rewinds to other constants";
+const OLD_SAVES: &str = "further calls that took up an old save";
+const ALL: [&str; 12] = [
     EQUAL_SAVES,
     LATEST,
     ACROSS,
@@ -31,6 +36,10 @@ const ALL: [&str; 8] = [
     FURTHER,
     FINITE,
     NANS,
+    OLDER,
+    NEW,
+    OTHER,
+    OLD_SAVES,
 ];
 
 impl Tally {
@@ -43,12 +52,22 @@ impl Tally {
         *self.met.entry(what).or_default() += times as u64;
     }
 
+    /// Counts a call after the end, and whether it took up an old save.
+    pub fn further(&mut self, call: &Call, refusal: u32) {
+        let old = matches!(call, Call::Rewind(save) if is_old(&save.0));
+        self.meet(FURTHER, 1);
+        self.meet(OLD_SAVES, (old && refusal == 0).into());
+    }
+
     /// Counts the end of a list by what the fields hold.
     pub fn end(&mut self, study: &Study, standing: usize) {
         let fields = || study.e.iter().chain(&study.h);
         let finite = fields().all(|x| x.is_finite()) && fields().any(|x| *x != 0.0);
         self.meet(FINITE, finite.into());
         self.meet(NANS, fields().any(|x| x.is_nan()).into());
+        let constants = study.record().unwrap().constants;
+        self.meet(OLDER, (constants == 0).into());
+        self.meet(NEW, (constants == 1).into());
         self.meet(STANDING, standing);
         self.lists += 1;
     }

@@ -8,7 +8,7 @@ use compare::engine::block::{self, Record};
 use compare::engine::{BEFORE, Study};
 use compare::judge::*;
 use compare::{EDGES, Random, SIGN, report, save};
-use standing::{SIZES, SLOTS, SPACINGS, calls, material, rewinding, study, tables};
+use standing::{CONSTANTS, SIZES, SLOTS, SPACINGS, calls, material, rewinding, study, tables};
 
 /// The calls that do not judge their block come first among all calls.
 const NOT_JUDGED: usize = 2;
@@ -168,7 +168,7 @@ fn broken(record: &mut Record, random: &mut Random) {
     let pick = |random: &mut Random| small[random.index(small.len())];
     for _ in 0..1 + random.below(3) {
         let axis = random.index(3);
-        match random.below(12) {
+        match random.below(13) {
             0 => record.sizes[axis] = [0, 1, 512, 513, 65535][random.index(5)],
             1 => record.spacings[random.index(4)] = random.odd(),
             2 => record.pole_slots = pick(random),
@@ -180,6 +180,7 @@ fn broken(record: &mut Record, random: &mut Random) {
             8 => record.steps = u32::MAX,
             9 => record.material_count = pick(random),
             10 => record.materials[random.index(4)] = material(&[3, 2, 1][..random.index(4)]),
+            11 => record.constants = pick(random),
             _ => record.time = random.odd(),
         }
     }
@@ -216,9 +217,14 @@ fn blocks_of_any_bytes() {
 }
 
 fn open(sizes: [usize; 3], pole_slots: usize, spacings: [f64; 4]) -> Call {
+    opening(sizes, pole_slots, CONSTANTS, spacings)
+}
+
+fn opening(sizes: [usize; 3], pole_slots: usize, constants: usize, spacings: [f64; 4]) -> Call {
     Call::Open {
         sizes,
         pole_slots,
+        constants,
         spacings,
     }
 }
@@ -250,6 +256,54 @@ fn openings() {
     let mut blank = standing;
     blank.block.fill(0xFF);
     due(&blank, &standing::opening(), 0);
+}
+
+/// Constants are judged where the pole slots are: after sizes and spacings, and before what is lent.
+#[test]
+fn openings_with_other_constants() {
+    let standing = study();
+    let mut short = study();
+    short.aux.pop();
+    for constants in [0, 1] {
+        due(&standing, &opening(SIZES, SLOTS, constants, SPACINGS), 0);
+    }
+    for constants in [2, 3, 255, 256, 257, 1 << 32, 1 << 63, usize::MAX] {
+        let with = |sizes, spacings| opening(sizes, SLOTS, constants, spacings);
+        for study in [&standing, &short] {
+            due(study, &with(SIZES, SPACINGS), BAD_STUDY);
+            due(study, &with(SIZES, [0.0, 1.0, 1.0, 1.0]), BAD_SPACING);
+            due(study, &with([0, 3, 4], [0.0, 1.0, 1.0, 1.0]), BAD_SIZE);
+            due(study, &with([0, 3, 4], SPACINGS), BAD_SIZE);
+        }
+    }
+}
+
+/// A block with constants that are none is a record all the same: 3 in its place, after 1 and 2 and before 4.
+#[test]
+fn blocks_with_other_constants() {
+    let calls = calls();
+    let (free, judging) = calls.split_at(NOT_JUDGED);
+    for constants in 2..=255 {
+        let mut study = study();
+        study.put_constants(constants);
+        for call in free {
+            due(&study, call, 0);
+        }
+        let mut flat = study.clone();
+        flat.block[..2].fill(0);
+        let timeless = with_double(&study, block::DOUBLES[3], 0);
+        let mut short = study.clone();
+        short.ids.pop();
+        for store in short.stores_mut() {
+            store.pop();
+        }
+        for call in judging {
+            due(&study, call, BAD_STUDY);
+            due(&flat, call, BAD_SIZE);
+            due(&timeless, call, BAD_SPACING);
+            due(&short, call, BAD_STUDY);
+        }
+    }
 }
 
 /// What is handed to opening comes first, and then the lengths of block and stores.
@@ -472,10 +526,11 @@ fn a_material_with_another_nan() {
 #[test]
 fn no_material_for_a_record_with_a_fault() {
     let record = study().record().unwrap();
-    let spoilt: [(u32, fn(&mut Record)); 5] = [
+    let spoilt: [(u32, fn(&mut Record)); 6] = [
         (BAD_SIZE, |r| r.sizes[1] = 513),
         (BAD_SPACING, |r| r.spacings[3] = 0.0),
         (BAD_STUDY, |r| r.pole_slots = 5),
+        (BAD_STUDY, |r| r.constants = 2),
         (BAD_STUDY, |r| r.region.kind = 4),
         (BAD_STUDY, |r| r.materials[0] = material(&[1])),
     ];

@@ -8,6 +8,7 @@ use compare::{Mix, Random, save};
 
 pub const SIZES: [usize; 3] = [2, 3, 4];
 pub const SLOTS: usize = 2;
+pub const CONSTANTS: usize = 1;
 pub const SPACINGS: [f64; 4] = [1e-3, 1.5e-3, 2e-3, 1e-12];
 
 pub fn pole(tag: u8) -> Pole {
@@ -33,6 +34,7 @@ pub fn opening() -> Call {
     Call::Open {
         sizes: SIZES,
         pole_slots: SLOTS,
+        constants: CONSTANTS,
         spacings: SPACINGS,
     }
 }

@@ -1,50 +1,10 @@
-use Rattle.heads.proofs.Written.{head-read}
+use Rattle.heads.proofs.Written.{head-whole}
 use borrow.Author.Needs.{needs}
 use Rattle.heads.proofs.payloads.get_gh.Statement.{statement}
 use Rattle.heads.proofs.payloads.get_gh.Tie as tie
 
 returns : tie.Need-returns
-returns c = let a = c .before .before .before .before .before .before .before .args in head-read (a .s .now) (a .at) _ _ _ _ _ _ (c .before .before .before .before .before .sizes-at .ensures) (c .before .before .before .before .flags-at .ensures) (c .before .before .before .counts-at .ensures) (c .before .before .corners-at .ensures) (c .before .floats-at .ensures) (c .get-u32 .ensures)
+returns c = let a = c .before .before .before .args in head-whole (a .s .now) (a .at) _ _ (c .head-with .ensures) (c .before .byte-at .ensures)
 
 pub get-gh-spec : {M : Type 1} → statement M
-get-gh-spec =
-    tie.close
-    (tie.spec
-    (λ c κs. search needs)
-    (λ c. search needs)
-    (λ c κs. search needs)
-    (λ c. search needs)
-    (λ c κs. search needs)
-    (λ c. search needs)
-    (λ c κs. search needs)
-    (λ c. search needs)
-    (λ c κs. search needs)
-    (λ c. search needs)
-    (λ c κs. search needs)
-    (λ c. search needs)
-    (λ c. search needs)
-    (λ c. search needs)
-    (λ c. search needs)
-    (λ c. search needs)
-    (λ c. search needs)
-    (λ c. search needs)
-    (λ c. search needs)
-    (λ c. search needs)
-    (λ c. search needs)
-    (λ c. search needs)
-    (λ c. search needs)
-    (λ c. search needs)
-    (λ c. search needs)
-    (λ c. search needs)
-    (λ c. search needs)
-    (λ c. search needs)
-    (λ c. search needs)
-    (λ c. search needs)
-    (λ c. search needs)
-    (λ c. search needs)
-    (λ c. search needs)
-    (λ c. search needs)
-    (λ c. search needs)
-    (λ c. search needs)
-    (λ c. search needs)
-    returns)
+get-gh-spec = tie.close (tie.spec (λ c. search needs) (λ c κs. search needs) (λ c κs. search needs) returns)

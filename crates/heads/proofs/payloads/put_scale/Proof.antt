@@ -5,9 +5,9 @@ use Rattle.heads.proofs.payloads.put_scale.Tie as tie
 
 returns : tie.Need-returns
 returns c =
-    let s = c .before .before .before .before .before .before .before .before .before .before .before .before .before .before in
+    let s = c .before .before .before .before .before .before .before .before .before .before .before .before .before .before .before .before .before .before in
     let a = s .args in
-    scale-put (a .out .now) _ _ _ (a .at) (a .g) (a .spacings) (a .clock) _ (c .before .before .before .before .before .before .before .float-nums .ensures) (s .pre) (c .before .before .before .before .before .before .before .before .before .before .before .put-corners .ensures) (c .before .before .before .before .before .before .put-floats .ensures) (c .before .before .put-u32 .ensures)
+    scale-put (a .out .now) _ _ _ _ (a .at) (a .g) (a .spacings) (a .clock) (a .constants) _ (c .before .before .before .before .before .before .before .before .before .before .before .float-nums .ensures) (s .pre) (c .before .before .before .before .before .before .before .before .before .before .before .before .before .before .before .put-corners .ensures) (c .before .before .before .before .before .before .before .before .before .before .put-floats .ensures) (c .before .before .before .before .before .before .put-u32 .ensures) (c .before .before .put-byte .ensures)
 
 pub put-scale-spec : {M : Type 1} → statement M
 put-scale-spec =
@@ -16,6 +16,8 @@ put-scale-spec =
     (λ c κs. search needs)
     (λ c. search needs)
     (λ c κs. search needs)
+    (λ c κs. search needs)
+    (λ c. search needs)
     (λ c κs. search needs)
     (λ c. search needs)
     (λ c κs. search needs)

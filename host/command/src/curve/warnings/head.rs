@@ -2,7 +2,7 @@
 
 use crate::curve::plan::Plan;
 use crate::head::{AxisName, Cells, Wave};
-use cichowiej::{Material, Pole, c0};
+use cichowiej::{Material, Pole};
 use std::f64::consts::PI;
 
 /// Cells a wavelength below which the grid is called coarse.
@@ -19,9 +19,10 @@ pub fn coarse(plan: &Plan) -> Option<String> {
     let top = plan.frequencies.iter().copied().fold(0.0, f64::max);
     let long = plan.grid.pitch.into_iter().zip(plan.grid.cells).filter(|(_, n)| *n > 1).map(|(d, _)| d);
     let pitch = long.fold(0.0, f64::max);
+    let constants = plan.grid.constants;
     let cells = |material: &Material| {
-        let index = (material.permittivity(top).norm() * material.mu_r).sqrt();
-        c0() / (top * index) / pitch
+        let index = (material.permittivity(top, constants).norm() * material.mu_r).sqrt();
+        constants.c0() / (top * index) / pitch
     };
     let sheets = plan.points.iter().filter_map(|point| Some((point.name(), cells(&point.sheet.as_ref()?.material))));
     let others = plan.materials().map(|(name, material)| (format!("material {name:?}"), cells(&material)));

@@ -3,7 +3,6 @@
 use crate::curve::plan::Plan;
 use crate::curve::study::Reading;
 use crate::output::table::in_hertz;
-use cichowiej::c0;
 use std::f64::consts::PI;
 
 /// How many times the lowest gauge frequency the layer's α may lie at.
@@ -38,7 +37,7 @@ pub fn weak(plan: &Plan) -> Option<String> {
 pub fn shifted(plan: &Plan) -> Option<String> {
     let layer = plan.layer_on_z().filter(|layer| layer.thickness > 0)?;
     let depth = layer.thickness as f64 * plan.grid.pitch[2];
-    let shift = layer.alpha_factor * c0() / (2.0 * PI * depth);
+    let shift = layer.alpha_factor * plan.grid.constants.c0() / (2.0 * PI * depth);
     let lowest = plan.frequencies.iter().copied().fold(f64::INFINITY, f64::min);
     (shift > SHIFTED * lowest).then(|| {
         let (lowest, shift) = (in_hertz(lowest), in_hertz(shift));

@@ -13,10 +13,10 @@ get-record-requires : tie.Need-get-record-requires
 get-record-requires c κs = met (c .before .before .is-record .ensures) (c .before .if1 .left)
 
 keep-clock-requires : tie.Need-keep-clock-requires
-keep-clock-requires c κs = block-long _ (met (c .before .before .before .before .before .before .before .before .before .before .before .before .before .before .before .before .before .before .before .before .before .before .before .is-record .ensures) (c .before .before .before .before .before .before .before .before .before .before .before .before .before .before .before .before .before .before .before .before .before .before .if1 .left))
+keep-clock-requires c κs = block-long _ (met (c .before .before .before .before .before .before .before .before .before .before .before .before .before .before .before .before .before .before .before .before .before .before .before .before .is-record .ensures) (c .before .before .before .before .before .before .before .before .before .before .before .before .before .before .before .before .before .before .before .before .before .before .before .if1 .left))
 
 returns-2 : tie.Need-returns-2
-returns-2 c = clock-well _ _ _ (met (c .before .before .before .before .before .before .before .before .before .before .before .before .before .before .before .before .before .before .before .before .before .before .before .before .before .before .is-record .ensures) (c .before .before .before .before .before .before .before .before .before .before .before .before .before .before .before .before .before .before .before .before .before .before .before .before .before .if1 .left)) (c .before .before .before .before .before .before .before .before .before .before .before .before .before .before .before .before .before .before .before .before .before .before .before .get-record .ensures) (run-vacuum _ _ _ (c .before .before .before .before .before .before .before .before .before .before .before .before .before .before .before .before .run .ensures)) (c .before .before .keep-clock .ensures)
+returns-2 c = clock-well _ _ _ (met (c .before .before .before .before .before .before .before .before .before .before .before .before .before .before .before .before .before .before .before .before .before .before .before .before .before .before .before .is-record .ensures) (c .before .before .before .before .before .before .before .before .before .before .before .before .before .before .before .before .before .before .before .before .before .before .before .before .before .before .if1 .left)) (c .before .before .before .before .before .before .before .before .before .before .before .before .before .before .before .before .before .before .before .before .before .before .before .before .get-record .ensures) (run-vacuum _ _ (c .before .before .before .before .before .before .before .before .before .before .before .before .before .before .before .before .before .before .before .before .before .before .before .chosen .ensures) _ _ (c .before .before .before .before .before .before .before .before .before .before .before .before .before .before .before .before .run .ensures)) (c .before .before .keep-clock .ensures)
 
 pub run-spec : {M : Type 1} → statement M
 run-spec =
@@ -26,6 +26,7 @@ run-spec =
     (λ c. refl)
     returns
     get-record-requires
+    (λ c κs. tt)
     (λ c κs. tt)
     keep-clock-requires
     (λ c. c .before .before .keep-clock .kept .0)

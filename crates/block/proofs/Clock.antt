@@ -17,7 +17,7 @@ use Rattle.dispersion.specs.declared.DispersiveMaterial.{DispersiveMaterial}
 use Rattle.grid.specs.declared.Clock.{Clock}
 use Rattle.grid.specs.Edited.{withClock}
 use Rattle.grid.specs.Fault.{allBelow}
-use Rattle.heads.specs.Numbers.{ghLength, flagsFine, cornersFine, ghShaped, ghOf, mlLength, mlShaped}
+use Rattle.heads.specs.Numbers.{flagsFine, cornersFine, ghShaped, ghOf, mlLength, mlShaped}
 use Rattle.heads.specs.Payloads.{headOf, countOf, entryAt, materialsOf}
 use Rattle.heads.specs.Inner.Parts.{planWidths, cornerWidths}
 use Rattle.block.specs.Block.{blockLength, clockWidths, clockPlace, clockBytes, clockPut, entries, allZero, entryFine, blockFine, blockRecord}

@@ -1,4 +1,4 @@
--- Bytes without fault, whichever length their GH has: cut short anywhere they are 13, and with more behind them 16; the save of a study with them. Assumes
+-- Bytes without fault, whichever length their GH has: cut short anywhere they are 13, and with more behind them 16; the latter of a study's save too. Assumes
 -- nothing.
 use Prim.Native.Nat.{ℕ, suc, _+_, _-_, _^_, _≤_, _<_}
 use native.Mathlib.Omega.{arith}
@@ -23,11 +23,11 @@ use Rattle.heads.specs.Numbers.{oldWidths, oldLength, ghWidths, ghLength, ghNum
 use Rattle.heads.specs.Payloads.{headBy}
 use Rattle.heads.proofs.Whole.{old-total, gh-total}
 use Rattle.format.specs.Records.{Piece, piece, framed, frames, trailing, Expected, recordFault, recordsFault}
-use Rattle.format.specs.Save.{markGH, pieces, saveBytes, saveLength}
+use Rattle.format.specs.Save.{markGH, pieces, saveBytes}
 use Rattle.format.specs.Rewind.{isOld, sizeBy, headSize, saveHead, bare, headGood, headRecord, listRecord, storeRecords, table, tableBy, tableOf, bytesFault, readRecord, readStores, rewindFault}
 use Rattle.format.specs.Inner.Savable.{Savable}
 use Rattle.format.proofs.Walk.{Meets, AllMeet, meet-cons, met-payload, met-past, walk-met, walk-cut, walk-back, cutUp}
-use Rattle.format.proofs.Written.{table-met, own-table, save-long}
+use Rattle.format.proofs.Written.{table-met, own-table}
 use Rattle.format.proofs.Back.{saved-fault}
 use Rattle.format.proofs.Again.{read-none, read-lengths, record-held, stores-held, head-nums, as-read}
 use Rattle.format.proofs.Same.{save-fit}
@@ -185,20 +185,10 @@ module _ (b : List ℕ) (bytes : T (bytesFit b)) (ok : bytesFault b ≡ 0) where
       ∙ walk-met es (cutUp es b) (x ∷ more) met
       ∙ ap (λ (t : Bool). first t trailing 0) (ne-eqb (suc (length more)) 0 (λ e. let z : ⊥ = omega arith in z))
 
--- ---- as a rewind meets them, whatever it is lent
-lent-too : (b : List ℕ) (l : Lengths) (f : ℕ) → bytesFault b ≡ suc f → rewindFault b l ≡ suc f
+-- ---- a study's save with more behind it, as a rewind meets it, whatever it is lent
+pub save-trailing : (r : Record) (s : Stores) → Savable r s → (l : Lengths) (x : ℕ) (more : List ℕ) → rewindFault (saveBytes r s ++ (x ∷ more)) l ≡ trailing
 unfolding rewindFault
-lent-too b l f e = ap (λ (n : ℕ). lentFault n (sameLengths l (storeLengths (readRecord b)))) e
-
-module _ (r : Record) (s : Stores) (k : Savable r s) (l : Lengths) where
-  abbrev b : List ℕ
-  b = saveBytes r s
-
-  none : bytesFault (saveBytes r s) ≡ 0
-  none = ap bytesFault (sym (append-nil (saveBytes r s))) ∙ saved-fault r s (k .ok) (k .held) (k .fit) (k .kept) []
-
-  pub save-cut : (n : ℕ) → n < saveLength r → rewindFault (take n (saveBytes r s)) l ≡ short
-  save-cut n m = lent-too (take n b) l 12 (read-cut b (save-fit r s) none n (omega (arith, save-long r s (k .fit), m)))
-
-  pub save-trailing : (x : ℕ) (more : List ℕ) → rewindFault (saveBytes r s ++ (x ∷ more)) l ≡ trailing
-  save-trailing x more = lent-too (b ++ (x ∷ more)) l 15 (read-trailing b (save-fit r s) none x more)
+save-trailing r s k l x more =
+    let b : List ℕ = saveBytes r s in
+    let none : bytesFault b ≡ 0 = ap bytesFault (sym (append-nil b)) ∙ saved-fault r s (k .ok) (k .held) (k .fit) (k .kept) [] in
+    ap (λ (n : ℕ). lentFault n (sameLengths l (storeLengths (readRecord (b ++ (x ∷ more)))))) (read-trailing b (save-fit r s) none x more)

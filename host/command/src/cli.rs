@@ -2,18 +2,18 @@
 
 pub mod curve;
 pub mod doctor;
+pub mod interrupt;
 pub mod man;
 pub mod run;
 pub mod standing;
 
+use crate::digest::sha256;
 use crate::head::trouble::Trouble;
+use crate::text::{Kind, plain_lines};
 use clap::{Parser, Subcommand};
-use sha2::{Digest, Sha256};
 use std::io::{self, Write};
-use std::path::Path;
+use std::path::{Path, PathBuf};
 use std::process::ExitCode;
-use std::sync::atomic::{AtomicBool, Ordering};
-use std::sync::{Arc, OnceLock};
 
 #[derive(Parser)]
 #[command(name = "cichowiej", version, about = "Computes what a microwave gauge reads")]
@@ -61,15 +61,16 @@ pub fn main(arguments: &Arguments) -> ExitCode {
     let (message, status) = match done {
         Ok(code) => return code,
         Err(Failure::Message(message)) => (message, 1),
-        Err(Failure::Interrupted) => ("interrupted; no file is left half written".into(), 130),
+        Err(Failure::Interrupted) => (interrupt::MESSAGE.into(), interrupt::STATUS),
     };
     // where nobody reads the message, the status still tells
-    let _ = writeln!(io::stderr(), "cichowiej: {message}");
+    let _ = writeln!(io::stderr(), "cichowiej: {}", plain_lines(&message));
     ExitCode::from(status)
 }
 
 /// A file of text as it was read.
 pub struct Input {
+    pub path: PathBuf,
     pub name: String,
     pub text: String,
     pub digest: String,
@@ -77,34 +78,14 @@ pub struct Input {
 
 impl Input {
     pub fn read(path: &Path) -> Result<Self, String> {
-        let name = path.display().to_string();
-        let bytes = std::fs::read(path).map_err(|e| format!("{name}: {e}"))?;
-        let digest = sha256(&bytes);
-        let text =
-            String::from_utf8(bytes).map_err(|e| format!("{name}: not UTF-8 from byte {} on", e.utf8_error().valid_up_to()))?;
-        Ok(Self { name, text, digest })
+        let text = Kind::INPUT.read_text(path)?;
+        Ok(Self { path: path.into(), name: path.display().to_string(), digest: sha256(text.as_bytes()), text })
     }
 
     /// A trouble with the file's name and line.
     pub fn located(&self, trouble: &Trouble) -> String {
         trouble.located(&self.name, &self.text)
     }
-}
-
-/// In hexadecimal digits.
-pub fn sha256(bytes: &[u8]) -> String {
-    Sha256::digest(bytes).iter().map(|byte| format!("{byte:02x}")).collect()
-}
-
-/// What stands for a program whose file cannot be read.
-pub const UNKNOWN: &str = "unknown";
-
-/// The SHA-256 of this program's file: sums and sampling are the program's, and not the engine's.
-pub fn program() -> String {
-    static DIGEST: OnceLock<String> = OnceLock::new();
-    // the file that runs, should another have taken its name
-    let read = || std::fs::read("/proc/self/exe").or_else(|_| std::env::current_exe().and_then(std::fs::read));
-    DIGEST.get_or_init(|| read().map_or(UNKNOWN.into(), |bytes| sha256(&bytes))).clone()
 }
 
 /// Standard output may be a pipe that nobody reads any more: that is no fault.
@@ -114,12 +95,4 @@ pub fn print(text: &str) -> Result<(), String> {
         Err(e) if e.kind() != io::ErrorKind::BrokenPipe => Err(format!("standard output: {e}")),
         _ => Ok(()),
     }
-}
-
-/// Set by Ctrl-C from now on.
-pub fn stop_flag() -> Result<Arc<AtomicBool>, String> {
-    let stop = Arc::new(AtomicBool::new(false));
-    let told = stop.clone();
-    ctrlc::set_handler(move || told.store(true, Ordering::Relaxed)).map_err(|e| format!("Ctrl-C: {e}"))?;
-    Ok(stop)
 }

@@ -4,10 +4,11 @@
 pub mod record;
 pub mod script;
 
-use crate::cluster::record::{Read, Unusable, maths, parse, text};
+use crate::cluster::record::{Unusable, parse, text};
 use crate::cluster::script::Commands;
 use crate::curve::plan::{Plan, Point};
-use crate::curve::study::Reading;
+use crate::curve::study::{Reading, Sums};
+use crate::text::{Kind, open_file};
 use cichowiej::write_whole;
 use std::fs;
 use std::io;
@@ -47,42 +48,34 @@ impl Points<'_> {
         write_whole(&path, text.as_bytes()).map_err(|e| failed(&e))
     }
 
-    fn read(&self, number: usize) -> Result<Read, Unusable> {
-        let bytes = fs::read(self.path(number)).map_err(|e| match e.kind() {
+    fn read(&self, number: usize) -> Result<Reading, Unusable> {
+        let bytes = open_file(&self.path(number)).and_then(|file| Kind::POINT.read(file)).map_err(|e| match e.kind() {
             io::ErrorKind::NotFound => Unusable::Absent,
             _ => Unusable::Unreadable(e),
         })?;
-        let read = parse(&bytes, self.digest, number)?;
-        if self.fits(&read.reading) { Ok(read) } else { Err(Unusable::Damaged) }
+        let reading = parse(&bytes, self.digest, number)?;
+        if self.fits(&reading) { Ok(reading) } else { Err(Unusable::Damaged) }
     }
 
     /// As many sums as the head has frequencies.
     fn fits(&self, reading: &Reading) -> bool {
         let count = self.plan.frequencies.len();
         let reflected = self.plan.head.planes.reflected.map(|_| count);
-        reading.transmitted.len() == count && reading.reflected.as_ref().map(Vec::len) == reflected
-    }
-
-    /// What the mathematical functions of all points' machines have to give: what they give here, if one of the points was computed so; else as for the first.
-    fn standard(read: &[Result<Read, Unusable>]) -> String {
-        let here = maths();
-        let found = || read.iter().flatten().map(|read| &read.maths);
-        if found().any(|maths| *maths == here) { here } else { found().next().cloned().unwrap_or(here) }
+        let fit = |sums: &Sums| sums.transmitted.len() == count && sums.reflected.as_ref().map(Vec::len) == reflected;
+        fit(&reading.sums) && fit(&reading.early)
     }
 
     /// The readings in the order of the points, all of them or a message that names each point without one, and its command.
-    pub fn gather(&self, commands: &Commands) -> Result<Gathered, String> {
-        let read: Vec<Result<Read, Unusable>> = (0..self.plan.points.len()).map(|number| self.read(number)).collect();
-        let standard = Self::standard(&read);
+    pub fn gather(&self, commands: &Commands) -> Result<Vec<Reading>, String> {
         let (mut readings, mut missing) = (Vec::new(), Vec::new());
-        for (number, read) in read.into_iter().enumerate() {
-            match read.and_then(|read| if read.maths == standard { Ok(read.reading) } else { Err(Unusable::OtherMaths) }) {
+        for number in 0..self.plan.points.len() {
+            match self.read(number) {
                 Ok(reading) => readings.push(reading),
                 Err(why) => missing.push(self.told(number, &why, commands)),
             }
         }
         if missing.is_empty() {
-            return Ok(Gathered { readings, elsewhere: standard != maths() });
+            return Ok(readings);
         }
         let told = format!("{} of {} points are missing, and nothing was written", missing.len(), self.plan.points.len());
         Err(format!("{}: {told}{}", self.folder.display(), missing.concat()))
@@ -94,11 +87,4 @@ impl Points<'_> {
         let (file, command) = (self.path(number), commands.point(number));
         format!("\npoint {number}, {name}: {}: {why}; its command:\n  {command}", file.display())
     }
-}
-
-/// All readings of a curve.
-pub struct Gathered {
-    pub readings: Vec<Reading>,
-    /// Whether they come from machines whose mathematical functions give other last bits than those here.
-    pub elsewhere: bool,
 }

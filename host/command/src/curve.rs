@@ -1,21 +1,23 @@
 //! The curve's numbers, with what a reader has to be told first.
 
 mod checks;
+mod phase;
 pub mod plan;
 pub mod study;
-mod warnings;
+pub mod warnings;
 
 use crate::curve::plan::{Plan, WetSheet};
 use crate::curve::study::Reading;
-use crate::curve::warnings::warnings;
-use cichowiej::{Complex, Constants, Layer};
+use crate::curve::warnings::Warning;
+use cichowiej::{Complex, Constants, Layer, maths};
 
 /// At one gauge frequency, against the empty head.
 #[derive(Debug, Clone, Copy, PartialEq)]
 pub struct Value {
     /// The transmission in dB.
     pub db: f64,
-    /// Its phase in degrees, from -180 to 180; a wave that comes later has a lower one.
+    /// Its phase in degrees; a wave that comes later has a lower one. The lowest moisture's is from -180 to 180, whatever whole turns it really has; any other's
+    /// is the one nearest to that of the next lower moisture, and true to it where the phase moves by less than half a turn between the two.
     pub degrees: f64,
     /// The part of the incident power that comes back, if a plane for it is given.
     pub reflected: Option<f64>,
@@ -38,7 +40,7 @@ pub struct Curve {
     pub rows: Vec<Row>,
     pub layer: Option<Layer>,
     pub constants: Constants,
-    pub warnings: Vec<String>,
+    pub warnings: Vec<Warning>,
     /// How it was computed, and where the sheet's numbers come from.
     pub notes: Vec<String>,
 }
@@ -53,13 +55,15 @@ impl Curve {
         let mut curve = Self {
             title,
             frequencies: plan.frequencies.clone(),
-            rows: points.filter_map(|(point, reading)| Some(row(point.sheet.clone()?, reading, empty, air))).collect(),
+            rows: phase::joined(
+                points.filter_map(|(point, reading)| Some(row(point.sheet.clone()?, reading, empty, air))).collect(),
+            ),
             layer: empty.layer,
             constants: plan.grid.constants,
             warnings: Vec::new(),
             notes: notes(plan),
         };
-        curve.warnings = warnings(plan, readings, &curve);
+        curve.warnings = warnings::all(plan, readings, &curve);
         curve
     }
 
@@ -86,7 +90,7 @@ impl Curve {
 
     /// The layer's line, and each warning.
     pub fn first_lines(&self) -> impl Iterator<Item = String> + '_ {
-        [self.told()].into_iter().chain(self.warnings.iter().map(|warning| format!("warning: {warning}")))
+        [self.told()].into_iter().chain(self.warnings.iter().map(Warning::to_string))
     }
 }
 
@@ -120,12 +124,17 @@ pub fn named(axes: [bool; 3]) -> String {
 /// What comes back has an echo of the incident wave's own line in it (docs/VALIDATION.md), which air alone has too: it is taken off. The incident wave is what air
 /// alone lets through.
 fn row(sheet: WetSheet, reading: &Reading, empty: &Reading, air: &Reading) -> Row {
-    let back = |f: usize| Some((reading.reflected.as_ref()?[f] - air.reflected.as_ref()?[f]).norm() / air.transmitted[f].norm());
+    let (sums, air) = (&reading.sums, &air.sums);
+    let back = |f: usize| Some((sums.reflected.as_ref()?[f] - air.reflected.as_ref()?[f]).norm() / air.transmitted[f].norm());
     let value = |f: usize| {
-        let ratio: Complex = reading.transmitted[f] / empty.transmitted[f];
-        Value { db: 20.0 * ratio.norm().log10(), degrees: ratio.angle().to_degrees(), reflected: back(f).map(|part| part * part) }
+        let ratio: Complex = sums.transmitted[f] / empty.sums.transmitted[f];
+        Value {
+            db: 20.0 * maths::log10(ratio.norm()),
+            degrees: ratio.angle().to_degrees(),
+            reflected: back(f).map(|part| part * part),
+        }
     };
-    Row { sheet, values: (0..reading.transmitted.len()).map(value).collect(), energy: reading.energy / empty.energy }
+    Row { sheet, values: (0..sums.transmitted.len()).map(value).collect(), energy: reading.energy / empty.energy }
 }
 
 fn notes(plan: &Plan) -> Vec<String> {

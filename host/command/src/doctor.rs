@@ -4,7 +4,7 @@ use crate::curve::Curve;
 use crate::curve::plan::Plan;
 use crate::curve::study::Watch;
 use crate::head::Head;
-use cichowiej::{Constants, Grid, Refusal, Study};
+use cichowiej::{Constants, Grid, Refusal, Study, maths};
 use std::f64::consts::PI;
 use std::sync::atomic::AtomicBool;
 
@@ -48,8 +48,8 @@ pub fn self_test() -> Vec<(String, bool)> {
 
 /// The transmission of a plain slab in dB: 1 / |T|² = 1 + ((n² - 1) / 2n)² sin²(k n d).
 fn plain_slab(index: f64, thickness: f64, frequency: f64) -> f64 {
-    let part = (index * index - 1.0) / (2.0 * index) * (2.0 * PI * frequency / CONSTANTS.c0() * index * thickness).sin();
-    -10.0 * (1.0 + part * part).log10()
+    let part = (index * index - 1.0) / (2.0 * index) * maths::sin(2.0 * PI * frequency / CONSTANTS.c0() * index * thickness);
+    -10.0 * maths::log10(1.0 + part * part)
 }
 
 fn transmission() -> (String, bool) {
@@ -87,7 +87,7 @@ fn saved(constants: Constants) -> Result<bool, Refusal> {
     let mut study = Study::open(&Grid { cells: [5, 6, 7], pitch, dt, pole_slots: 1, constants })?;
     study.box_region([1, 3, 1, 4, 1, 5])?;
     // long enough for the wave to come up its line to the box
-    let samples: Vec<f64> = (0..100).map(|step| (0.3 * f64::from(step)).sin()).collect();
+    let samples: Vec<f64> = (0..100).map(|step| maths::sin(0.3 * f64::from(step))).collect();
     study.run(&samples)?;
     let save = study.save()?;
     let mut again = Study::from_save(&save)?;

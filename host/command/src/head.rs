@@ -8,6 +8,7 @@ pub mod trouble;
 pub mod units;
 
 use crate::choice;
+use crate::document;
 use crate::head::mixture::Paper;
 use crate::head::trouble::Trouble;
 use crate::head::units::{Conductivity, Density, Frequency, Grammage, Length, Pitch, Rate, Time};
@@ -38,10 +39,7 @@ pub struct Head {
 
 impl Head {
     pub fn parse(text: &str) -> Result<Self, Trouble> {
-        Trouble::of_depth(text).map_or(Ok(()), Err)?;
-        let value: toml::Value = toml::from_str(text).map_err(|error| Trouble::of_text(&error, text))?;
-        serde_path_to_error::deserialize(value)
-            .map_err(|error| Trouble::of_value(&error.path().to_string(), &error.inner().to_string()))
+        document::parse(text)
     }
 }
 

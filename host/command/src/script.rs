@@ -1,114 +1,74 @@
 //! A study as a text of calls, one a line (`cichowiej run`).
 
+mod files;
+mod parse;
 mod statement;
 mod words;
 
-use crate::cli::{Failure, Input, sha256};
+use crate::cli::interrupt::Interrupt;
+use crate::cli::{Failure, Input};
 use crate::curve::told;
-use crate::standing::Save;
-use cichowiej::{MaterialId, Refusal, Study, write_whole};
-use statement::{Edge, Size, Statement, Wave, grid, pole, size, statement};
-use std::collections::{BTreeMap, BTreeSet};
+use crate::digest::sha256;
+use crate::standing::study_from;
+use crate::text::plain;
+use cichowiej::{MaterialId, Refusal, Source, Study, write_whole};
+use parse::{Lined, parse};
+use statement::{Edge, Statement, Wave};
+use std::collections::BTreeMap;
 use std::io::{self, Write};
 use std::path::Path;
-use std::sync::atomic::{AtomicBool, Ordering};
-use words::Words;
 
 /// Where an answer goes, a line with its end.
 pub type Out<'a> = &'a mut dyn FnMut(&str) -> Result<(), Failure>;
 
-/// Makes the calls of a script on a study, or on the one that it opens; gives the study as it stands at the end. Every line is understood before the first call is made.
-pub fn run(study: Option<Study>, script: &Input, hex: bool, out: Out, stop: &AtomicBool) -> Result<Option<Study>, Failure> {
-    let at = |(line, message): (usize, String)| format!("{}:{line}: {message}", script.name);
-    let statements = parse(&script.text).map_err(at)?;
-    let mut session = Session { study, names: BTreeMap::new(), hex, stop, unbuilt: false };
-    for (line, statement) in &statements {
-        if let Some(doubt) = session.doubt(statement) {
-            // answers alone go to standard output
-            let _ = writeln!(io::stderr(), "warning: {}", at((*line, doubt)));
-        }
-        match session.make(statement) {
-            Ok(Some(answer)) => out(&format!("{answer}\n"))?,
-            Ok(None) => {}
-            Err(Trouble::Interrupted) => return Err(Failure::Interrupted),
-            Err(Trouble::Refused(refusal)) => {
-                return Err(at((statement.line_of(refusal, *line), format!("refused as {refusal}"))).into());
-            }
-            Err(Trouble::Other(message)) => return Err(at((*line, message)).into()),
-        }
-    }
-    Ok(session.study)
+/// A script that was read: every line is understood and every file was looked for. Its tables are read, so that a pipe may be one.
+pub struct Script {
+    name: String,
+    statements: Vec<Lined<Statement>>,
 }
 
-/// The first line that begins another study, if the script is one.
-pub fn begins_anew(script: &Input) -> Option<usize> {
-    let statements = parse(&script.text).ok()?;
-    let anew = |statement: &Statement| matches!(statement, Statement::Open { .. } | Statement::Rewind(_));
-    statements.into_iter().find(|(_, statement)| anew(statement)).map(|(line, _)| line)
-}
-
-impl Statement {
-    /// Notes the name of a material; one that no line before has named is a slip.
-    fn check_name(&self, names: &mut BTreeSet<String>) -> Result<(), String> {
-        match self {
-            Statement::Material { name, .. } => {
-                names.insert(name.clone());
-                Ok(())
-            }
-            Statement::Box { material, .. } | Statement::Halfspace { material, .. } => {
-                let known = names.contains(material) || material == "vacuum" || material.parse::<u32>().is_ok();
-                if known { Ok(()) } else { Err(format!("there is no material {material:?}")) }
-            }
-            _ => Ok(()),
-        }
+impl Script {
+    pub fn parse(input: &Input) -> Result<Self, String> {
+        let at = |(line, message): Lined<String>| located(&input.name, line, &message);
+        let statements = parse(&input.text).map_err(at)?;
+        files::check(&input.path, &statements).map_err(at)?;
+        Ok(Self { name: input.name.clone(), statements })
     }
 
-    /// The line whose words a refusal is about.
-    fn line_of(&self, refusal: Refusal, line: usize) -> usize {
-        match self {
-            Statement::Open { size_line, .. } if refusal != Refusal::BadSpacing => *size_line,
-            _ => line,
+    /// The first line that begins another study.
+    pub fn begins_anew(&self) -> Option<usize> {
+        let found = self.statements.iter().find(|(_, statement)| statement.begins_anew());
+        found.map(|(line, _)| *line)
+    }
+
+    /// Makes the calls on a study, or on the one that the script opens; gives the study as it stands at the end.
+    pub fn run(&self, study: Option<Study>, hex: bool, out: Out, interrupt: &Interrupt) -> Result<Option<Study>, Failure> {
+        let mut session = Session { study, names: BTreeMap::new(), hex, interrupt, unbuilt: false, told: false };
+        for (line, statement) in &self.statements {
+            // a write that was brought to its end may have been told to be the last
+            interrupt.check()?;
+            for doubt in session.doubts(statement) {
+                // answers alone go to standard output
+                let _ = writeln!(io::stderr(), "warning: {}", plain(&located(&self.name, *line, &doubt)));
+            }
+            let made = session.make(statement).map_err(|trouble| self.failure(trouble, *line, statement))?;
+            made.map_or(Ok(()), |answer| out(&format!("{answer}\n")))?;
         }
+        Ok(session.study)
+    }
+
+    fn failure(&self, trouble: Trouble, line: usize, statement: &Statement) -> Failure {
+        let (line, message) = match trouble {
+            Trouble::Interrupted => return Failure::Interrupted,
+            Trouble::Refused(refusal) => (statement.line_of(refusal, line), format!("refused as {refusal}")),
+            Trouble::Other(message) => (line, message),
+        };
+        located(&self.name, line, &message).into()
     }
 }
 
-type Lined<T> = (usize, T);
-
-/// The statements with their lines, or the first line that is none.
-fn parse(text: &str) -> Result<Vec<Lined<Statement>>, Lined<String>> {
-    let mut statements: Vec<Lined<Statement>> = Vec::new();
-    let mut sized: Option<Lined<Size>> = None;
-    let mut names = BTreeSet::new();
-    // some editors put a mark before the first line
-    let text = text.strip_prefix('\u{feff}').unwrap_or(text);
-    for (index, text) in text.lines().enumerate() {
-        let line = index + 1;
-        let at = |message: String| (line, message);
-        let mut words = Words::of(text);
-        let Some(kind) = words.next() else { continue };
-        match (kind, sized.take()) {
-            ("pitch", Some((size_line, size))) => {
-                let grid = grid(size, &mut words).map_err(at)?;
-                statements.push((line, Statement::Open { grid, size_line }));
-            }
-            (_, Some(_)) | ("pitch", None) => return Err(at("size stands before pitch, and pitch behind size".into())),
-            ("size", None) => sized = Some((line, size(&mut words).map_err(at)?)),
-            ("pole", None) => match statements.last_mut() {
-                Some((_, Statement::Material { material, .. })) => material.poles.push(pole(&mut words).map_err(at)?),
-                _ => return Err(at("a pole stands behind its material".into())),
-            },
-            (kind, None) => {
-                let statement = statement(kind, &mut words).map_err(at)?;
-                statement.check_name(&mut names).map_err(at)?;
-                statements.push((line, statement));
-            }
-        }
-        words.end().map_err(at)?;
-    }
-    match sized {
-        Some((line, _)) => Err((line, "no pitch stands behind it".into())),
-        None => Ok(statements),
-    }
+fn located(name: &str, line: usize, message: &str) -> String {
+    format!("{name}:{line}: {message}")
 }
 
 /// Why a call came to nothing.
@@ -124,48 +84,62 @@ impl From<Refusal> for Trouble {
     }
 }
 
+impl From<Failure> for Trouble {
+    fn from(failure: Failure) -> Self {
+        match failure {
+            Failure::Message(message) => Self::Other(message),
+            Failure::Interrupted => Self::Interrupted,
+        }
+    }
+}
+
 impl From<String> for Trouble {
     fn from(message: String) -> Self {
         Self::Other(message)
     }
 }
 
-/// Steps between two looks at Ctrl-C.
-const AT_ONCE: u32 = 4096;
+/// What is stepped between two looks at Ctrl-C: a part of a second, on the largest grid too.
+const CELL_STEPS_AT_ONCE: usize = 1 << 24;
+const MOST_STEPS_AT_ONCE: usize = 4096;
 
 struct Session<'a> {
     study: Option<Study>,
     /// The script's names for materials.
     names: BTreeMap<String, MaterialId>,
     hex: bool,
-    stop: &'a AtomicBool,
+    interrupt: &'a Interrupt,
     /// Whether a material with poles was added and nothing built since.
     unbuilt: bool,
+    /// Whether it was told that this study's time step is too long.
+    told: bool,
 }
 
 impl Session<'_> {
     /// What is no fault and mostly a slip.
-    fn doubt(&mut self, statement: &Statement) -> Option<String> {
+    fn doubts(&mut self, statement: &Statement) -> Vec<String> {
         match statement {
-            Statement::Open { grid, .. } => {
-                self.unbuilt = false;
-                let courant = grid.courant_number();
-                (courant > 1.0).then(|| format!("the Courant number is {courant:.3}: above 1 the field grows without end"))
-            }
-            Statement::Material { material, .. } => {
-                self.unbuilt |= !material.poles.is_empty();
-                None
-            }
-            Statement::Build => {
-                self.unbuilt = false;
-                None
-            }
-            Statement::Run { .. } if self.unbuilt => Some("a material's poles act after build only".into()),
-            Statement::Run { source: Some(_), .. } if !self.study.as_ref()?.has_region() => {
-                Some("there is no wave's region: what the source gives goes nowhere".into())
-            }
-            _ => None,
+            Statement::Run { source, .. } => return self.doubts_of_run(source.is_some()),
+            Statement::Material { material, .. } => self.unbuilt |= !material.poles.is_empty(),
+            Statement::Build => self.unbuilt = false,
+            _ if statement.begins_anew() => (self.unbuilt, self.told) = (false, false),
+            _ => {}
         }
+        vec![]
+    }
+
+    /// The time step is judged by axes, wave and materials as they are at this run; it is told once a study.
+    fn doubts_of_run(&mut self, has_source: bool) -> Vec<String> {
+        let Some(study) = &self.study else { return vec![] };
+        let (courant, limit) = (study.grid().courant_number(), study.courant_limit());
+        let grows = !self.told && courant > limit;
+        self.told |= grows;
+        let doubts = [
+            grows.then(|| format!("the Courant number is {courant:.3}: above {limit:.3} the field grows without end")),
+            self.unbuilt.then(|| "a material's poles act after build only".into()),
+            (has_source && !study.has_region()).then(|| "there is no wave's region: what the source gives goes nowhere".into()),
+        ];
+        doubts.into_iter().flatten().collect()
     }
 
     fn study(&mut self) -> Result<&mut Study, String> {
@@ -197,10 +171,10 @@ impl Session<'_> {
             Statement::Material { name, material } => {
                 let id = self.study()?.add_material(material)?;
                 self.names.insert(name.clone(), id);
-                return Ok(Some(format!("material {name} {}", id.number())));
+                return Ok(Some(format!("material {} {}", plain(name), id.number())));
             }
             Statement::Edge(edge) => return self.edge(edge),
-            Statement::Run { steps, source } => return self.run(*steps, source.as_ref()).map(|()| None),
+            Statement::Run { steps, source, .. } => return self.run(*steps, source.as_ref()).map(|()| None),
             Statement::Energy => {
                 let energy = self.study()?.total_energy()?;
                 return Ok(Some(format!("energy {}", self.float(energy))));
@@ -211,7 +185,9 @@ impl Session<'_> {
             }
             Statement::Save(path) => return self.save(path).map(Some),
             Statement::Rewind(path) => {
-                self.study = Some(Save::from_file(path)?.study);
+                // first the old one goes: to judge a save takes the room of two
+                self.study = None;
+                self.study = Some(study_from(path)?);
                 self.names.clear();
             }
             _ => self.edit(statement)?,
@@ -253,18 +229,17 @@ impl Session<'_> {
     }
 
     /// All steps or, where the clock has no room for them, none.
-    fn run(&mut self, steps: u32, source: Option<&cichowiej::Source>) -> Result<(), Trouble> {
-        let stop = self.stop;
+    fn run(&mut self, steps: u32, source: Option<&Source>) -> Result<(), Trouble> {
+        let interrupt = self.interrupt;
         let study = self.study()?;
         if study.steps().checked_add(steps).is_none() {
             return Err(Refusal::SpentClock.into());
         }
-        let (mut done, dt) = (0, study.grid().dt);
+        let _orderly = interrupt.orderly();
+        let (mut done, dt, most) = (0, study.grid().dt, at_once(study.grid().cells));
         while done < steps {
-            if stop.load(Ordering::Relaxed) {
-                return Err(Trouble::Interrupted);
-            }
-            let count = AT_ONCE.min(steps - done);
+            interrupt.check()?;
+            let count = most.min(steps - done);
             let samples = match source {
                 Some(source) => source.samples(study.time(), dt, done as usize).take(count as usize).collect(),
                 None => vec![0.0; count as usize],
@@ -277,7 +252,24 @@ impl Session<'_> {
 
     fn save(&mut self, path: &Path) -> Result<String, Trouble> {
         let bytes = self.study()?.save()?;
+        let _orderly = self.interrupt.orderly();
         write_whole(path, &bytes).map_err(|e| format!("{}: {e}", path.display()))?;
-        Ok(format!("save {} {} bytes, SHA-256 {}", path.display(), bytes.len(), sha256(&bytes)))
+        let name = plain(&path.display().to_string());
+        Ok(format!("save {name} {} bytes, SHA-256 {}", bytes.len(), sha256(&bytes)))
+    }
+}
+
+fn at_once(cells: [usize; 3]) -> u32 {
+    let steps = CELL_STEPS_AT_ONCE / cells.iter().product::<usize>().max(1);
+    steps.clamp(1, MOST_STEPS_AT_ONCE) as u32
+}
+
+#[cfg(test)]
+mod tests {
+    use super::at_once;
+
+    #[test]
+    fn large_grids_are_stepped_in_small_parts() {
+        assert_eq!([[1, 1, 90], [16, 16, 16], [64, 64, 64], [512, 4, 512]].map(at_once), [4096, 4096, 64, 16]);
     }
 }

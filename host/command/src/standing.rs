@@ -6,21 +6,22 @@ pub mod list;
 pub mod note;
 pub mod records;
 pub mod show;
+pub mod stream;
 pub mod tree;
 pub mod verify;
 
-use crate::cli::sha256;
-use crate::standing::note::{Note, Words};
-use cichowiej::{MAX_CELLS, MAX_SIDE, Study, write_whole};
+use crate::digest::sha256;
+use crate::standing::note::{Note, Numbers, Words};
+use crate::standing::stream::Stream;
+use crate::text::{Kind, open_file, read_up_to};
+use cichowiej::{MAX_CELLS, MAX_SIDE, Study, sync_folder, write_new};
 use std::collections::BTreeSet;
 use std::fs::{self, File};
-use std::io::{self, Read};
+use std::io;
 use std::path::{Path, PathBuf};
 
 /// No save has more bytes: 908 + 125 M + 196 N + 48 P N + 48 L + 16 nz with 16 materials and 4 pole slots.
 const LONGEST_SAVE: u64 = 908 + 125 * 16 + (196 + 48 * 4) * MAX_CELLS as u64 + (48 * 3 + 16) * MAX_SIDE as u64;
-/// Far more than a note has.
-const LONGEST_NOTE: u64 = 1 << 20;
 
 /// The folder.
 pub struct Standing {
@@ -53,25 +54,52 @@ impl Noted {
     }
 }
 
-/// A save that was taken from the folder or goes into it.
+/// A save that goes into the folder. Its study is not with it: of what is large only one is held at a time, bytes or study, but for the engine's own work on both.
 pub struct Save {
     pub id: String,
     pub bytes: Vec<u8>,
-    pub study: Study,
+    pub numbers: Numbers,
 }
 
 impl Save {
     /// From a file of a person's, or from a pipe.
     pub fn from_file(path: &Path) -> Result<Self, String> {
-        let bytes = File::open(path).and_then(|file| read_up_to(file, LONGEST_SAVE));
-        let bytes = bytes.map_err(|e| format!("{}: {e}", path.display()))?;
-        let study = Study::from_save(&bytes).map_err(|refusal| format!("{}: refused as {refusal}", path.display()))?;
-        Ok(Self { id: sha256(&bytes), bytes, study })
+        read_save(path).map(|(bytes, study)| Self::new(bytes, study))
     }
 
     pub fn from_study(study: Study) -> Result<Self, String> {
         let bytes = study.save().map_err(|refusal| format!("the study's save: refused as {refusal}"))?;
-        Ok(Self { id: sha256(&bytes), bytes, study })
+        Ok(Self::new(bytes, study))
+    }
+
+    fn new(bytes: Vec<u8>, study: Study) -> Self {
+        let numbers = Numbers::of(&study, bytes.len());
+        drop(study);
+        Self { id: sha256(&bytes), bytes, numbers }
+    }
+}
+
+/// The study of a save, from a file of a person's or from a pipe.
+pub fn study_from(path: &Path) -> Result<Study, String> {
+    read_save(path).map(|(_, study)| study)
+}
+
+fn read_save(path: &Path) -> Result<(Vec<u8>, Study), String> {
+    let bytes = File::open(path).and_then(|file| read_up_to(file, LONGEST_SAVE));
+    let bytes = bytes.map_err(|e| format!("{}: {e}", path.display()))?;
+    let study = Study::from_save(&bytes).map_err(|refusal| format!("{}: refused as {refusal}", path.display()))?;
+    Ok((bytes, study))
+}
+
+/// The study of a kept save that was judged, and how many bytes the save has.
+pub struct Kept {
+    pub study: Study,
+    pub length: usize,
+}
+
+impl Kept {
+    pub fn numbers(&self) -> Numbers {
+        Numbers::of(&self.study, self.length)
     }
 }
 
@@ -127,18 +155,18 @@ impl Standing {
     }
 
     /// A kept save, judged.
-    pub fn save(&self, id: &str) -> Result<Save, String> {
+    pub fn kept(&self, id: &str) -> Result<Kept, String> {
         let path = self.save_path(id);
         let told = |message: String| format!("{}: {message}", path.display());
-        let bytes = read_file(&path, LONGEST_SAVE).map_err(|e| told(e.to_string()))?;
+        let bytes = open_file(&path).and_then(|file| read_up_to(file, LONGEST_SAVE)).map_err(|e| told(e.to_string()))?;
         let study = judged(id, &bytes).map_err(told)?;
-        Ok(Save { id: id.into(), bytes, study })
+        Ok(Kept { study, length: bytes.len() })
     }
 
     pub fn note(&self, id: &str) -> Noted {
         let path = self.note_path(id);
         let name = path.display();
-        let text = match read_file(&path, LONGEST_NOTE) {
+        let text = match open_file(&path).and_then(|file| Kind::NOTE.read(file)) {
             Ok(bytes) => String::from_utf8(bytes).map_err(|_| "not UTF-8".to_string()),
             Err(e) if e.kind() == io::ErrorKind::NotFound => return Noted::Nothing,
             Err(e) => Err(e.to_string()),
@@ -151,30 +179,41 @@ impl Standing {
         }
     }
 
-    /// Adds a save and then its note, each where it is not there yet. The answer is the note that was there before.
-    pub fn keep(&self, save: &Save, words: Words) -> Result<Noted, String> {
-        self.make().map_err(|e| format!("{}: {e}", self.folder()))?;
-        let _lock = self.lock();
-        self.add_save(save)?;
-        let before = self.note(&save.id);
-        if let Noted::Nothing = before {
-            // a save whose note was lost may be what its own child made again
-            let grew_from = words.grew_from.filter(|from| *from != save.id);
-            let note = Note::new(&save.study, save.bytes.len(), date::now(), Words { grew_from, ..words });
-            let text = toml::to_string(&note).map_err(|e| e.to_string())?;
-            write(&self.note_path(&save.id), text.as_bytes())?;
+    /// Whether the save is there. It is, if the file of its name has the bytes whose SHA-256 this is.
+    pub fn holds(&self, save: &Save) -> Result<bool, String> {
+        let path = self.save_path(&save.id);
+        match Stream::open(&path).and_then(Stream::digest) {
+            Ok(digest) if digest == save.id => Ok(true),
+            Ok(_) => Err(in_the_way(&path, "this file is damaged")),
+            // a folder that is none is told when it is to be made
+            Err(e) if matches!(e.kind(), io::ErrorKind::NotFound | io::ErrorKind::NotADirectory) => Ok(false),
+            Err(e) => Err(in_the_way(&path, &e.to_string())),
         }
-        Ok(before)
     }
 
-    fn add_save(&self, save: &Save) -> Result<(), String> {
+    /// Adds a save, and makes the folder.
+    pub fn add(&self, save: &Save) -> Result<(), String> {
+        self.make().map_err(|e| format!("{}: {e}", self.folder()))?;
         let path = self.save_path(&save.id);
-        let told = |message: String| format!("{}: {message}; move it away, then keep the save again", path.display());
-        match read_file(&path, LONGEST_SAVE) {
-            Ok(bytes) if bytes == save.bytes => Ok(()),
-            Ok(_) => Err(told("this file is damaged".into())),
-            Err(e) if e.kind() == io::ErrorKind::NotFound => write(&path, &save.bytes),
-            Err(e) => Err(told(e.to_string())),
+        // another program may have added the same one since it was looked for
+        if write(&path, &save.bytes)? || self.holds(save)? { Ok(()) } else { Err(in_the_way(&path, NOWHERE)) }
+    }
+
+    /// Adds the note of a save where there is none. The answer is the one that was there before: of several programs the first one's stays.
+    pub fn annotate(&self, save: &Save, words: Words) -> Result<Noted, String> {
+        let before = self.note(&save.id);
+        let Noted::Nothing = before else { return Ok(before) };
+        // a save whose note was lost may be what its own child made again
+        let grew_from = words.grew_from.filter(|from| *from != save.id);
+        let note = Note::new(save.numbers, date::now(), Words { grew_from, ..words });
+        let text = toml::to_string(&note).map_err(|e| e.to_string())?;
+        let path = self.note_path(&save.id);
+        if write(&path, text.as_bytes())? {
+            return Ok(before);
+        }
+        match self.note(&save.id) {
+            Noted::Nothing => Err(in_the_way(&path, NOWHERE)),
+            noted => Ok(noted),
         }
     }
 
@@ -183,34 +222,20 @@ impl Standing {
             return Ok(());
         }
         fs::create_dir_all(&self.folder)?;
-        let above = self.folder.join("..");
-        File::open(above)?.sync_all()
-    }
-
-    /// So that no other program puts a note between a look for it and its writing. Some file systems of a network have no such locks: there it goes without.
-    fn lock(&self) -> Option<File> {
-        let folder = File::open(&self.folder).ok()?;
-        folder.lock().ok().map(|()| folder)
+        sync_folder(&self.folder.join(".."))
     }
 }
 
-fn write(path: &Path, bytes: &[u8]) -> Result<(), String> {
-    write_whole(path, bytes).map_err(|e| format!("{}: {e}", path.display()))
+/// Of a name that is taken, and yet nothing can be read under it.
+const NOWHERE: &str = "this is a link to nothing";
+
+fn in_the_way(path: &Path, message: &str) -> String {
+    format!("{}: {message}; move it away, then keep the save again", path.display())
 }
 
-/// A file's bytes, or one more than the limit. Of what is in the folder only files are read: a pipe would be waited for.
-fn read_file(path: &Path, limit: u64) -> io::Result<Vec<u8>> {
-    if !fs::metadata(path)?.is_file() {
-        return Err(io::Error::other("this is no file"));
-    }
-    read_up_to(File::open(path)?, limit)
-}
-
-/// The byte past the limit is read so that the engine finds it too long, as it would find the whole.
-fn read_up_to(file: File, limit: u64) -> io::Result<Vec<u8>> {
-    let mut bytes = Vec::new();
-    file.take(limit + 1).read_to_end(&mut bytes)?;
-    Ok(bytes)
+/// False where the file is there already.
+fn write(path: &Path, bytes: &[u8]) -> Result<bool, String> {
+    write_new(path, bytes).map_err(|e| format!("{}: {e}", path.display()))
 }
 
 /// The study of a kept save, or what is wrong with it.

@@ -141,9 +141,42 @@ fn values_that_no_head_has_are_named() {
         ("width = \"80 ps\"", "width = \"-80 ps\"", 18, "source.modulated.width", "larger than 0"),
         ("delay = \"400 ps\"", "delay = inf", 19, "source.modulated.delay", "0 or more"),
     ]);
-    let deep = format!("title = {}{}", "[".repeat(100_000), "]".repeat(100_000));
-    let (status, _, err) = with("title = \"A test\"", &deep).curve(&[]);
-    assert!(status == 1 && err.contains("100000 deep"), "{err}");
+}
+
+/// Numbers that no layer has, as they are told of materials.
+#[test]
+fn layers_that_are_none_are_named() {
+    let cases = [
+        ("order = -1", "order", "-1 has to be 0 or more"),
+        ("order = nan", "order", "NaN has to be 0 or more"),
+        ("order = inf", "order", "inf has to be 0 or more"),
+        ("kappa_max = 0.5", "kappa_max", "0.5 has to be 1 or more"),
+        ("kappa_max = -5", "kappa_max", "-5 has to be 1 or more"),
+        ("kappa_max = inf", "kappa_max", "inf has to be 1 or more"),
+        ("alpha_factor = -0.2", "alpha_factor", "-0.2 has to be 0 or more"),
+        ("alpha_factor = nan", "alpha_factor", "NaN has to be 0 or more"),
+        ("alpha_order = -1", "alpha_order", "-1 has to be 0 or more"),
+        ("alpha_order = inf", "alpha_order", "inf has to be 0 or more"),
+        ("target_reflection = 0", "target_reflection", "0 has to be above 0 and below 1"),
+        ("target_reflection = 1", "target_reflection", "1 has to be above 0 and below 1"),
+        ("target_reflection = -1e-8", "target_reflection", "has to be above 0 and below 1"),
+        ("target_reflection = nan", "target_reflection", "NaN has to be above 0 and below 1"),
+        ("target_reflection = inf", "target_reflection", "inf has to be above 0 and below 1"),
+        ("sigma_scale = -1", "sigma_scale", "-1 has to be 0 or more"),
+        ("sigma_scale = inf", "sigma_scale", "inf has to be 0 or more"),
+    ];
+    for (line, key, words) in cases {
+        refused(&[("thickness = 10", &format!("thickness = 10\n{line}"), 12, &format!("edge.layer.{key}"), words)]);
+    }
+    let layer = "[edge.layer]\naxes = [\"z\"]\nthickness = 10";
+    for (number, words) in [("-1", "-1 has"), ("nan", "NaN has"), ("inf", "inf has"), ("\"-2 S/m\"", "-2 has")] {
+        let lossy = format!("[edge.lossy]\nthickness = 3\norder = 2\nsigma_max = {number}");
+        refused(&[(layer, &lossy, 12, "edge.lossy.sigma_max", &format!("{words} to be 0 or more"))]);
+    }
+    // the smallest that are taken
+    let weakest = "thickness = 10\norder = 0\nkappa_max = 1\nalpha_factor = 0\nalpha_order = 0\nsigma_scale = 0";
+    let (status, out, err) = with("thickness = 10", weakest).curve(&[]);
+    assert!(status == 0 && out.contains("the absorbing layer is weak") && err.is_empty(), "{out}{err}");
 }
 
 #[test]
@@ -214,7 +247,7 @@ fn slips_in_the_paper_are_named() {
 fn doubtful_curves_are_warned_of() {
     let cases = [
         ("steps = 3000", "steps = 300", "take more steps"),
-        ("courant = 0.5", "courant = 1.5", "the Courant number is 1.500"),
+        ("courant = 0.5", "courant = 1.8", "the Courant number is 1.800: above 1.732 the field grows without end"),
         ("eps_inf = 2.0, sigma = 0.1", "eps_inf = 200.0, sigma = 0.1", "cells a wavelength in moisture 5 %"),
         ("periodic = [\"x\", \"y\"]", "periodic = [\"x\"]", "not both periodic"),
         ("transmitted = 70", "transmitted = 85", "in the absorbing layer"),
@@ -247,12 +280,12 @@ fn doubtful_curves_are_warned_of() {
         assert_eq!((status, err.as_str()), (0, ""), "{new}");
         let files =
             ["c.csv", "c.html", "c.svg"].map(|file| fs::read_to_string(folder.path(file)).unwrap().replace("</text>", ""));
-        assert!(out.contains("warning: ") && out.contains(word), "{new}: {out}");
+        assert!(out.contains("warning (") && out.contains(word), "{new}: {out}");
         assert!(files[..2].iter().all(|text| text.contains(word)) && files[2].contains("warning"), "{new}");
     }
     let (_, out, _) =
         Folder::new(&HEAD.replace("percent = 10", "percent = 0.1").replace("percent = 5", "percent = 0.05")).curve(&[]);
-    assert!(out.contains("warning: every moisture is below 1 %"), "{out}");
+    assert!(out.contains("warning (moistures): every moisture is below 1 %"), "{out}");
     let (_, out, _) = Folder::new(HEAD).curve(&[]);
     assert!(!out.contains("warning"), "{out}");
 }

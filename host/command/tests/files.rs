@@ -3,8 +3,9 @@
 mod common;
 
 use assert_cmd::cargo::cargo_bin;
-use common::{Folder, HEAD, with};
+use common::{Folder, HEAD, with, without_studies};
 use std::fs;
+use std::os::unix::fs::{PermissionsExt, symlink};
 use std::process::{Command, Stdio};
 use std::thread::sleep;
 use std::time::Duration;
@@ -112,15 +113,86 @@ fn a_kill_leaves_no_file() {
     assert_eq!(names(&folder), ["head.toml"]);
 }
 
-/// What is written is for all to read, as any file is, and is there alone.
+/// `curve head.toml` behind some lines of a shell's, with more words.
+fn by_shell(folder: &Folder, before: &str, words: &str) -> (i32, String, String) {
+    let script = format!("{before} \"$0\" curve head.toml {words}");
+    let mut command = Command::new("sh");
+    let out = command.args(["-c", &script]).arg(cargo_bin("cichowiej")).current_dir(folder.path("")).output().unwrap();
+    let text = |bytes: Vec<u8>| String::from_utf8(bytes).unwrap();
+    (out.status.code().unwrap(), text(out.stdout), without_studies(&text(out.stderr)))
+}
+
+/// What is written has the mode that the umask leaves it, and is there alone; over an old file it has the old one's.
 #[test]
-fn files_are_left_alone_and_readable() {
-    use std::os::unix::fs::PermissionsExt;
+fn the_umask_is_heard() {
+    let folder = Folder::new(HEAD);
+    let mode = || fs::metadata(folder.path("c.csv")).unwrap().permissions().mode() & 0o7777;
+    for (mask, bits) in [("022", 0o644), ("027", 0o640), ("077", 0o600)] {
+        assert_eq!(by_shell(&folder, &format!("umask {mask};"), "--csv c.csv").0, 0);
+        assert_eq!(mode(), bits, "{mask}");
+        assert_eq!(names(&folder), ["c.csv", "head.toml"]);
+        assert_eq!(by_shell(&folder, "chmod 664 c.csv; umask 077;", "--csv c.csv").0, 0);
+        assert_eq!(mode(), 0o664);
+        fs::remove_file(folder.path("c.csv")).unwrap();
+    }
+}
+
+/// The control room reads the file that the link leads to.
+#[test]
+fn an_output_that_is_a_link_is_followed() {
+    let folder = Folder::new(HEAD);
+    fs::create_dir(folder.path("room")).unwrap();
+    fs::write(folder.path("room/now.csv"), "old").unwrap();
+    symlink("room/now.csv", folder.path("c.csv")).unwrap();
+    assert_eq!(folder.curve(&["--csv", "c.csv"]).0, 0);
+    assert!(fs::symlink_metadata(folder.path("c.csv")).unwrap().is_symlink());
+    assert!(fs::read_to_string(folder.path("room/now.csv")).unwrap().starts_with("# absorbing layer"));
+    // an input by another name is an input
+    symlink("head.toml", folder.path("other")).unwrap();
+    let (status, _, err) = folder.curve(&["--csv", "other"]);
+    assert!(status == 1 && err.contains("named twice"), "{err}");
+}
+
+/// Below /dev a file is a file, and what is no file is written to as it stands.
+#[test]
+fn a_file_below_dev_is_whole() {
     let folder = Folder::new(HEAD);
     assert_eq!(folder.curve(&["--csv", "c.csv"]).0, 0);
-    assert_eq!(names(&folder), ["c.csv", "head.toml"]);
-    let mode = fs::metadata(folder.path("c.csv")).unwrap().permissions().mode();
-    assert_eq!(mode & 0o777, 0o644);
+    let wanted = fs::read_to_string(folder.path("c.csv")).unwrap();
+    if let Ok(place) = tempfile::tempdir_in("/dev/shm") {
+        let file = place.path().join("c.csv");
+        for old in ["short".to_string(), "a longer text than a curve has\n".repeat(1000)] {
+            fs::write(&file, old).unwrap();
+            assert_eq!(folder.curve(&["--csv", file.to_str().unwrap()]).0, 0);
+            assert_eq!(fs::read_to_string(&file).unwrap(), wanted);
+        }
+        fs::remove_file(&file).unwrap();
+        assert_eq!(folder.curve(&["--csv", file.to_str().unwrap()]).0, 0);
+        assert_eq!(fs::read_to_string(&file).unwrap(), wanted);
+    } else {
+        println!("NOT TRIED: no /dev/shm here");
+    }
+    let (_, table, _) = folder.curve(&[]);
+    // a pipe, and a file that is open already as standard output
+    assert_eq!(by_shell(&folder, "", "--csv /dev/stdout | cat").1, format!("{table}{wanted}"));
+    assert_eq!(by_shell(&folder, "", "--csv /dev/stdout > out.txt; cat out.txt").1, format!("{table}{wanted}"));
+    assert_eq!(by_shell(&folder, "exec 3> out.txt;", "--csv /dev/fd/3 > /dev/null; cat out.txt").1, wanted);
+    assert_eq!(folder.curve(&["--csv", "/dev/null", "--svg", "/dev/null"]).0, 0);
+}
+
+/// A file that its owner has shut stays as it is. (Root is let in by the system.)
+#[test]
+fn a_shut_file_stays() {
+    let folder = Folder::new(HEAD);
+    fs::write(folder.path("c.csv"), "old").unwrap();
+    fs::set_permissions(folder.path("c.csv"), fs::Permissions::from_mode(0o444)).unwrap();
+    if fs::File::options().write(true).open(folder.path("c.csv")).is_ok() {
+        println!("NOT TRIED: the system lets this user write to any file");
+        return;
+    }
+    let (status, _, err) = folder.curve(&["--csv", "c.csv"]);
+    assert!(status == 1 && err.contains("c.csv: Permission denied"), "{err}");
+    assert_eq!(fs::read_to_string(folder.path("c.csv")).unwrap(), "old");
 }
 
 #[test]

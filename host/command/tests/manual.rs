@@ -2,6 +2,7 @@
 
 use assert_cmd::cargo::cargo_bin;
 use cichowiej::REFUSALS;
+use cichowiej_command::curve::warnings::Kind;
 use std::fs;
 use std::path::Path;
 use std::process::Command;
@@ -77,5 +78,13 @@ fn the_manual_page_has_every_command() {
     match Command::new("groff").args(["-man", "-ww", "-z", "-Tutf8"]).arg(&file).output() {
         Ok(out) => assert!(out.status.success() && out.stderr.is_empty(), "{}", String::from_utf8_lossy(&out.stderr)),
         Err(_) => println!("NOT TRIED: no groff here"),
+    }
+}
+
+#[test]
+fn every_kind_of_warning_is_in_the_manual() {
+    let manual = manual();
+    for kind in Kind::ALL {
+        assert_eq!(manual.matches(&format!("\n| `{}` | ", kind.name())).count(), 1, "{}", kind.name());
     }
 }

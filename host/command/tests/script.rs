@@ -1,8 +1,14 @@
 //! `cichowiej run` as a person would use it.
 
+#[path = "common/child.rs"]
+mod child;
+
 use assert_cmd::cargo::cargo_bin;
+use child::{Running, make_pipe, until};
 use cichowiej::{CellBox, Constants, CpmlConfig, Grid, Material, Pole, REFUSALS, Source, Study};
 use std::fs;
+use std::io::Read;
+use std::os::unix::fs::symlink;
 use std::path::PathBuf;
 use std::process::{Command, Stdio};
 use std::thread::sleep;
@@ -197,15 +203,123 @@ fn bad_lines_are_named() {
         ("run 3 gaussian width=1ps", 4, "delay= is missing"),
         ("run 3 table nowhere.txt", 4, "nowhere.txt: "),
         ("energy 3", 4, "one word too many"),
-        ("rewind nowhere.save", 4, "nowhere.save: "),
-        ("save nowhere/a.save", 4, "nowhere/a.save: "),
+        ("rewind nowhere.save", 4, "nowhere.save: No such file"),
+        ("save nowhere/a.save", 4, "nowhere/a.save: there is no folder nowhere: make it first"),
+        ("save", 4, "a file is missing"),
+        ("save 'a.save", 4, "a quote is not closed"),
+        ("save a.save\\", 4, "a backslash ends the line"),
+        ("save a.save b.save", 4, "\"b.save\" is one word too many"),
+        ("run 3 table", 4, "a file of numbers is missing"),
+        ("material m eps_inf=1\nsave a.save\nrewind a.save\nbox m", 7, "no material \"m\""),
+        ("material m eps_inf=1\nsize 1 1 9\npitch 1mm dt=1ps\nhalfspace m 3", 7, "no material \"m\""),
     ];
     for (lines, line, words) in cases {
         let (status, out, err) = Folder::new(&format!("size 1 1 24\npitch 1mm courant=0.5\nenergy\n{lines}\n")).run(&[]);
         assert!(status == 1 && err.contains(&format!("s.txt:{line}: ")) && err.contains(words), "{lines}: {err}");
-        // what is no script is known before the first call
-        let late = ["nowhere.save", "nowhere/a.save"].iter().any(|late| words.contains(late));
-        assert_eq!(out.is_empty(), !late, "{lines}: {out}");
+        // before the first call
+        assert_eq!(out, "", "{lines}");
+    }
+}
+
+const BEGINNING: &str = "size 1 1 9\npitch 1mm courant=0.5\nenergy\n";
+
+/// Names with blanks, = and #, quoted as in a shell; from a file with other line ends, and a mark before its first line.
+#[test]
+fn names_of_files_are_a_shells_words() {
+    let lines = [
+        "save a=b.save",
+        "save 'with blank.save'",
+        "save\t\"it's \\\"so\\\".save\"",
+        "save back\\ slash.save # don't",
+        "save '#1.save'",
+        "save ~/home.save",
+        "save $x*.save",
+        "rewind ~/home.save",
+        "rewind a=b.save",
+        "run 3 table 'amplitude=1 2.txt'",
+        "save last.save",
+    ];
+    for end in ["\n", "\r\n"] {
+        let folder = Folder::new(&format!("\u{feff}{BEGINNING}{}\r", lines.join("\n")).replace('\n', end));
+        fs::create_dir(folder.path("h")).unwrap();
+        fs::write(folder.path("amplitude=1 2.txt"), "1 2 3\n").unwrap();
+        let out = folder.command(&[]).env("HOME", folder.path("h")).output().unwrap();
+        assert_eq!((out.status.code(), String::from_utf8(out.stderr).unwrap().lines().count()), (Some(0), 1));
+        for name in ["a=b", "with blank", "it's \"so\"", "back slash", "#1", "h/home", "$x*", "last"] {
+            assert!(folder.path(&format!("{name}.save")).is_file(), "{name} {end:?}");
+        }
+    }
+    let folder = Folder::new(&format!("{BEGINNING}save ~/a.save\n"));
+    let out = folder.command(&[]).env_remove("HOME").output().unwrap();
+    let err = String::from_utf8(out.stderr).unwrap();
+    assert!(out.status.code() == Some(1) && out.stdout.is_empty(), "{err}");
+    assert!(err.contains("s.txt:4: ~/a.save: there is no HOME in the environment"), "{err}");
+}
+
+#[test]
+fn tables_that_are_none_are_named() {
+    let folder = Folder::new("");
+    fs::write(folder.path("empty.txt"), " \n").unwrap();
+    fs::write(folder.path("latin.txt"), b"1.0 \xe9").unwrap();
+    fs::write(folder.path("words.txt"), "1.0 two").unwrap();
+    for (file, words) in [
+        ("empty.txt", "there is no number in it"),
+        ("latin.txt", "not UTF-8 from byte 4 on"),
+        ("words.txt", "\"two\" is no number of its kind"),
+        ("/dev/zero", "longer than a table may be, 256 MiB"),
+        ("/dev/null", "there is no number in it"),
+    ] {
+        fs::write(folder.path("s.txt"), format!("{BEGINNING}run 3 table {file}\n")).unwrap();
+        let (status, out, err) = folder.run(&[]);
+        assert!(status == 1 && out.is_empty() && err.contains(&format!("s.txt:4: {file}: {words}")), "{file}: {err}");
+    }
+}
+
+/// Whatever it is called: nothing was computed when it is told.
+#[test]
+fn no_save_takes_an_inputs_place() {
+    let folder = Folder::new("");
+    let table = "1 2 3\n";
+    fs::write(folder.path("t.txt"), table).unwrap();
+    fs::create_dir(folder.path("sub")).unwrap();
+    symlink("s.txt", folder.path("script-link")).unwrap();
+    symlink("../t.txt", folder.path("sub/table-link")).unwrap();
+    let own = "this is the script that runs: take another name";
+    let read = "this is a table that the script reads: take another name";
+    for (file, words) in [
+        ("s.txt", own),
+        ("./s.txt", own),
+        ("sub/../s.txt", own),
+        ("script-link", own),
+        ("t.txt", read),
+        ("sub/table-link", read),
+        ("sub", "this is a folder: name a file"),
+    ] {
+        let script = format!("{BEGINNING}save {file}\nrun 3 table t.txt\n");
+        fs::write(folder.path("s.txt"), &script).unwrap();
+        let (status, out, err) = folder.run(&[]);
+        assert!(status == 1 && out.is_empty() && err.contains(&format!("s.txt:4: {file}: {words}")), "{file}: {err}");
+        assert_eq!([script.as_str(), table], ["s.txt", "t.txt"].map(|name| fs::read_to_string(folder.path(name)).unwrap()));
+    }
+}
+
+/// What a line before saves is there to rewind to, by whatever name; devices are written to.
+#[test]
+fn a_rewind_finds_what_a_line_before_saves() {
+    let folder = Folder::new("");
+    symlink("new.save", folder.path("link")).unwrap();
+    for (lines, status) in [
+        ("save a.save\nrewind ./a.save\n", 0),
+        ("save link\nrewind new.save\n", 0),
+        ("save /dev/null\nsave /dev/stdout\n", 0),
+        ("rewind later.save\nsave later.save\n", 1),
+        ("save b.save\nrewind sub/b.save\n", 1),
+    ] {
+        fs::write(folder.path("s.txt"), format!("{BEGINNING}{lines}")).unwrap();
+        let out = folder.command(&[]).output().unwrap();
+        let err = String::from_utf8_lossy(&out.stderr);
+        assert!(out.status.code() == Some(status) && out.stdout.is_empty() == (status == 1), "{lines}: {err}");
+        assert_eq!(err.contains(", and no line before saves it"), status == 1, "{lines}: {err}");
     }
 }
 
@@ -237,7 +351,7 @@ fn refusals_end_with_1() {
 #[test]
 fn doubtful_lines_are_warned_of() {
     let cases = [
-        ("size 1 1 9\npitch 1mm courant=2\n", 2, "the Courant number is 2.000"),
+        ("size 1 1 9\npitch 1mm courant=2\nrun 3\n", 3, "the Courant number is 2.000"),
         (
             "size 1 1 9 poles=1\npitch 1mm courant=0.5\nmaterial m eps_inf=2\npole debye delta_eps=1 tau=1ps\nbox m\nrun 3\n",
             6,
@@ -251,6 +365,58 @@ fn doubtful_lines_are_warned_of() {
     }
     // a mark before the first line is no word
     assert_eq!(Folder::new("\u{feff}size 1 1 9\npitch 1mm courant=0.5\n").run(&[]).0, 0);
+}
+
+/// Whatever a line has changed since the last run: axes, wave, materials with their poles.
+#[test]
+fn a_time_step_is_judged_at_each_run() {
+    let grown = |lines: &str| {
+        let (status, _, err) =
+            Folder::new(&format!("size 4 4 16 poles=1\npitch 1mm courant=1.01\nrun 1\n{lines}\nrun 1\n")).run(&[]);
+        assert_eq!(status, 0, "{err}");
+        err
+    };
+    assert_eq!(grown("energy"), "");
+    assert!(grown("periodic xy").contains("s.txt:5: the Courant number is 1.010: above 1.0"), "{}", grown("periodic xy"));
+    let pole = "material m eps_inf=1\npole drude omega_p=9e11 gamma=1e9\nbox m z=3:4";
+    assert_eq!(grown(&format!("{pole}\nnumbers eps_r=1 mu_r=1 sigma=0")).matches("grows").count(), 0);
+    assert!(grown(&format!("{pole}\nbuild")).contains("s.txt:8: the Courant number is 1.010: above 0."), "{}", grown(pole));
+    assert!(
+        grown("numbers eps_r=1 mu_r=0.25 sigma=0 z=3:4").contains("above 0.5"),
+        "{}",
+        grown("numbers eps_r=1 mu_r=0.25 sigma=0 z=3:4")
+    );
+}
+
+/// By the axes that are periodic when it runs, and once a study; also where a study is taken up.
+#[test]
+fn a_time_step_is_judged_by_the_axes() {
+    let (periodic, cube) = ("size 1 1 90\npitch 1mm courant=C\nperiodic xy\n", "size 8 8 8\npitch 1mm courant=C\n");
+    let cases = [
+        (periodic, "1.7", None),
+        (periodic, "1.8", Some("1.732")),
+        (cube, "1", None),
+        (cube, "1.02", None),
+        (cube, "1.05", Some("1.026")),
+        ("size 8 8 8\npitch 1mm courant=C\nedge periodic\n", "1.02", Some("1.000")),
+    ];
+    for (script, courant, limit) in cases {
+        let script = script.replace('C', courant);
+        let line = script.lines().count() + 1;
+        let folder = Folder::new(&format!("{script}run 1\nrun 1\nsave a.save\nrewind a.save\nenergy\nrun 1\n"));
+        let (number, name) = (courant.parse::<f64>().unwrap(), &folder.path("s.txt"));
+        let told = |line: usize| {
+            let words = |limit| format!("the Courant number is {number:.3}: above {limit} the field grows without end");
+            limit.map_or(String::new(), |limit| format!("warning: s.txt:{line}: {}\n", words(limit)))
+        };
+        let (status, _, err) = folder.run(&[]);
+        assert_eq!((status, err), (0, told(line) + &told(line + 5)), "{script}");
+        fs::write(name, "energy\nrun 1\nrun 1\n").unwrap();
+        let (status, _, err) = folder.run(&["--from", "a.save"]);
+        assert_eq!((status, err), (0, told(2)), "{script}");
+    }
+    // what is never stepped grows no more than it can
+    assert_eq!(Folder::new("size 8 8 8\npitch 1mm courant=9\nenergy\n").run(&[]).2, "");
 }
 
 /// What begins a word is for people, what stands in one is not.
@@ -296,4 +462,59 @@ fn ctrl_c_ends_a_run() {
     assert!(Command::new("kill").args(["-INT", &child.id().to_string()]).status().unwrap().success());
     assert_eq!(child.wait().unwrap().code(), Some(130));
     assert!(!folder.path("late.save").exists());
+}
+
+/// At each place where a pipe is read, and nobody writes to it.
+#[test]
+fn ctrl_c_ends_what_waits_for_a_pipe() {
+    let folder = Folder::new("");
+    make_pipe(&folder.path("pipe"));
+    for (script, words) in [
+        ("rewind pipe\n", &[][..]),
+        ("save a.save\nrewind pipe\nsave late.save\n", &[]),
+        ("run 3 table pipe\nsave late.save\n", &[]),
+        ("save late.save\n", &["--from", "pipe"]),
+    ] {
+        fs::write(folder.path("s.txt"), format!("{BEGINNING}{script}")).unwrap();
+        let child = Running::new(&mut folder.command(words));
+        child.waits();
+        child.interrupt();
+        assert_eq!(child.end(), (Some(130), "cichowiej: interrupted; no file is left half written\n".into()), "{script}");
+        assert!(!folder.path("late.save").exists());
+    }
+}
+
+/// Longer than a pipe holds.
+const TO_A_PIPE: &str = "size 2 2 400\npitch 1mm courant=0.5\nsave pipe\nsave late.save\n";
+
+#[test]
+fn a_write_that_has_begun_is_the_last_one_after_ctrl_c() {
+    let folder = Folder::new(TO_A_PIPE);
+    make_pipe(&folder.path("pipe"));
+    let child = Running::new(&mut folder.command(&[]));
+    let mut pipe = fs::File::open(folder.path("pipe")).unwrap();
+    // it holds what has no room in the pipe
+    child.waits();
+    child.interrupt_and_wait();
+    let mut bytes = Vec::new();
+    pipe.read_to_end(&mut bytes).unwrap();
+    assert!(Study::from_save(&bytes).is_ok());
+    assert_eq!(child.end().0, Some(130));
+    assert!(!folder.path("late.save").exists());
+}
+
+#[test]
+fn a_second_ctrl_c_ends_at_once() {
+    let folder = Folder::new(TO_A_PIPE);
+    make_pipe(&folder.path("pipe"));
+    // open, and never read
+    let _pipe = fs::File::options().read(true).write(true).open(folder.path("pipe")).unwrap();
+    let mut child = Running::new(&mut folder.command(&[]));
+    child.waits();
+    until("it does not end", || {
+        child.interrupt();
+        sleep(Duration::from_millis(20));
+        child.has_ended().then_some(())
+    });
+    assert_eq!(child.end(), (Some(130), "cichowiej: interrupted at once\n".into()));
 }

@@ -1,7 +1,8 @@
-//! The absorbing layer's tables, as the original's `AxisCoeffs::build` makes them (Roden and Gedney 2000; phyz-em, cpml.rs, NOTICE): the engine takes
-//! them as numbers.
+//! The absorbing layer's tables, as the original's `AxisCoeffs::build` makes them (Roden and Gedney 2000; phyz-em, cpml.rs, NOTICE), by functions that give the
+//! same bits on every machine: the engine takes them as numbers.
 
 use crate::constants::Constants;
+use crate::maths;
 use crate::refusal::Refusal;
 use crate::stores::sizes_fit;
 use crate::study::Grid;
@@ -42,12 +43,26 @@ impl Default for CpmlConfig {
     }
 }
 
-/// What one axis has: cells, their size, the time step, the constants.
-struct Axis {
+/// What the tables are computed by. The original takes the system's; whoever wants its tables to the last bit hands those in.
+#[derive(Debug, Clone, Copy)]
+pub struct Functions {
+    pub exp: fn(f64) -> f64,
+    pub ln: fn(f64) -> f64,
+    pub powf: fn(f64, f64) -> f64,
+}
+
+impl Functions {
+    /// The same on every machine.
+    pub const OWN: Self = Self { exp: maths::exp, ln: maths::ln, powf: maths::powf };
+}
+
+/// What one axis has: cells, their size, the time step, the constants; and the functions for its tables.
+struct Axis<'a> {
     n: usize,
     d: f64,
     dt: f64,
     constants: Constants,
+    functions: &'a Functions,
 }
 
 /// σ and α of a layer at their largest.
@@ -57,11 +72,12 @@ struct Strength {
 }
 
 impl CpmlConfig {
-    fn strength(&self, depth: f64, constants: Constants) -> Strength {
-        let (eps0, mu0, c0) = (constants.eps0(), constants.mu0(), constants.c0());
+    fn strength(&self, axis: &Axis) -> Strength {
+        let (eps0, mu0, c0) = (axis.constants.eps0(), axis.constants.mu0(), axis.constants.c0());
+        let depth = self.thickness as f64 * axis.d;
         let eta0 = (mu0 / eps0).sqrt();
         Strength {
-            sigma: -(self.order + 1.0) * self.target_reflection.ln() / (2.0 * eta0 * depth) * self.sigma_scale,
+            sigma: -(self.order + 1.0) * (axis.functions.ln)(self.target_reflection) / (2.0 * eta0 * depth) * self.sigma_scale,
             alpha: self.alpha_factor * eps0 * c0 / depth,
         }
     }
@@ -71,10 +87,11 @@ impl CpmlConfig {
         if u <= 0.0 {
             return [1.0, 1.0, 0.0];
         }
-        let sigma = most.sigma * u.powf(self.order);
-        let kappa = 1.0 + (self.kappa_max - 1.0) * u.powf(self.order);
-        let alpha = most.alpha * (1.0 - u).powf(self.alpha_order);
-        let b = (-((sigma / kappa) + alpha) * axis.dt / axis.constants.eps0()).exp();
+        let Functions { exp, powf, .. } = *axis.functions;
+        let sigma = most.sigma * powf(u, self.order);
+        let kappa = 1.0 + (self.kappa_max - 1.0) * powf(u, self.order);
+        let alpha = most.alpha * powf(1.0 - u, self.alpha_order);
+        let b = exp(-((sigma / kappa) + alpha) * axis.dt / axis.constants.eps0());
         let denominator = kappa * (sigma + kappa * alpha);
         let c = if denominator.abs() > 0.0 { sigma * (b - 1.0) / denominator } else { 0.0 };
         [1.0 / kappa, b, c]
@@ -87,7 +104,7 @@ impl CpmlConfig {
             return inactive(n);
         }
         let thick = self.thickness as f64;
-        let most = self.strength(thick * axis.d, axis.constants);
+        let most = self.strength(axis);
         let depth = |distance: f64| ((thick - distance) / thick).clamp(0.0, 1.0);
         let mut out = Vec::with_capacity(6 * n);
         for half in [0.0, 0.5] {
@@ -111,12 +128,18 @@ fn inactive(n: usize) -> Vec<f64> {
 
 /// The tables of a study in store order: x, y, z. An axis that was not asked for has those of opening. Refused for sizes that no study has.
 pub fn tables(grid: &Grid, config: &CpmlConfig) -> Result<Vec<f64>, Refusal> {
+    tables_with(grid, config, &Functions::OWN)
+}
+
+/// The same by other functions.
+pub fn tables_with(grid: &Grid, config: &CpmlConfig, functions: &Functions) -> Result<Vec<f64>, Refusal> {
     if !sizes_fit(grid.cells) {
         return Err(Refusal::BadSize);
     }
     let axis = |a: usize| {
         let (n, d) = (grid.cells[a], grid.pitch[a]);
-        if config.axes[a] { config.axis(&Axis { n, d, dt: grid.dt, constants: grid.constants }) } else { inactive(n) }
+        let axis = Axis { n, d, dt: grid.dt, constants: grid.constants, functions };
+        if config.axes[a] { config.axis(&axis) } else { inactive(n) }
     };
     Ok([axis(0), axis(1), axis(2)].concat())
 }

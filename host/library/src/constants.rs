@@ -65,7 +65,8 @@ impl Constants {
         }
     }
 
-    /// The largest stable time step of cells of these sizes.
+    /// The time step at the Courant number 1 for cells of these sizes: the largest that is stable in a grid with many cells along each axis
+    /// (`Grid::courant_limit` says what it is in others).
     pub fn largest_dt(self, pitch: [f64; 3]) -> f64 {
         let [dx, dy, dz] = pitch;
         cichowiej_max_stable_dt(self.c0(), dx, dy, dz, 0.0)

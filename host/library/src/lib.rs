@@ -29,6 +29,7 @@ mod bindings;
 mod constants;
 mod file;
 mod material;
+pub mod maths;
 mod refusal;
 mod source;
 mod spectrum;
@@ -39,9 +40,9 @@ mod study;
 pub const ENGINE: &str =
     concat!("cichowiej ", env!("CARGO_PKG_VERSION"), ", proved by ", env!("PROOF_KIT"), ", library ", env!("ENGINE_DIGEST"));
 
-pub use absorber::{CpmlConfig, tables};
+pub use absorber::{CpmlConfig, Functions, tables, tables_with};
 pub use constants::Constants;
-pub use file::write_whole;
+pub use file::{folder, followed, sync_folder, write_new, write_whole};
 pub use material::{Material, Pole};
 pub use refusal::{REFUSALS, Refusal};
 pub use source::Source;

@@ -1,5 +1,6 @@
 //! Materials: what they answer at once, and their poles.
 
+use crate::bindings::ade_coeffs;
 use crate::constants::Constants;
 use crate::spectrum::Complex;
 use crate::stores::{MATERIAL_LENGTH, MAX_POLE_SLOTS};
@@ -24,6 +25,32 @@ impl Pole {
             Pole::Debye { delta_eps, tau } => (delta_eps, Complex::new(1.0, omega * tau)),
         };
         Complex::new(strength, 0.0) / denominator
+    }
+
+    /// What it adds to the relative permittivity for a field that changes its sign at each step of dt, by the recursion P' = a1 P + a2 P₋ + a3 E. Where that does
+    /// not come to rest by itself it has no such number.
+    fn alternating(self, dt: f64, constants: Constants) -> f64 {
+        let ((tag, numbers), mut coeffs) = (self.tagged(), [0.0; 3]);
+        ade_coeffs(tag.into(), numbers, constants.eps0(), dt, &mut coeffs);
+        let [a1, a2, a3] = coeffs;
+        let turned = 1.0 + a1 - a2;
+        if a3 == 0.0 {
+            0.0
+        } else if turned > 0.0 {
+            -a3 / (constants.eps0() * turned)
+        } else {
+            f64::NEG_INFINITY
+        }
+    }
+
+    /// From its tag in a save and its numbers; None for a tag that is none.
+    pub(crate) fn from_tagged(tag: u8, [first, second, third]: [f64; 3]) -> Option<Self> {
+        match tag {
+            1 => Some(Pole::Lorentz { delta_eps: first, omega0: second, gamma: third }),
+            2 => Some(Pole::Drude { omega_p: first, gamma: second }),
+            3 => Some(Pole::Debye { delta_eps: first, tau: second }),
+            _ => None,
+        }
     }
 
     /// Its tag in a save, and its numbers in the Rust's field order.
@@ -68,6 +95,12 @@ impl Material {
         let loss = Complex::new(0.0, -self.sigma / (omega * constants.eps0()));
         let poles = self.poles.iter().map(|pole| pole.susceptibility(omega));
         poles.fold(Complex::new(self.eps_inf, 0.0) + loss, |sum, chi| sum + chi)
+    }
+
+    /// What its poles add to the relative permittivity for a field that changes its sign at each step of dt: as a rule less than nothing. A grid of one material is
+    /// stable up to √(μ_r (eps_inf + this)) times the Courant number of vacuum, since there the fastest wave begins to grow with its sign turning.
+    pub fn alternating(&self, dt: f64, constants: Constants) -> f64 {
+        self.poles.iter().map(|pole| pole.alternating(dt, constants)).sum()
     }
 
     /// As the engine takes it. There are four places; more poles are counted, so that the engine turns the material down.

@@ -1,5 +1,6 @@
 //! What the wave's source gives at a time.
 
+use crate::maths;
 use std::f64::consts::PI;
 
 /// A source of the incident wave. Frequencies in Hz, times in s; the amplitude is that of the sample which a step takes.
@@ -18,13 +19,13 @@ pub enum Source {
 impl Source {
     /// What it gives at the time t, which is the end of the given step, counted from 0.
     pub fn at(&self, t: f64, step: usize) -> f64 {
-        let bell = |width: f64, delay: f64| (-((t - delay) / width).powi(2)).exp();
+        let bell = |width: f64, delay: f64| maths::exp(-((t - delay) / width).powi(2));
         match self {
             Self::Gaussian { amplitude, width, delay } => amplitude * bell(*width, *delay),
             Self::Modulated { amplitude, width, delay, frequency } => {
-                amplitude * bell(*width, *delay) * (2.0 * PI * frequency * (t - delay)).sin()
+                amplitude * bell(*width, *delay) * maths::sin(2.0 * PI * frequency * (t - delay))
             }
-            Self::Continuous { amplitude, frequency, ramp } => amplitude * rise(t, *ramp) * (2.0 * PI * frequency * t).sin(),
+            Self::Continuous { amplitude, frequency, ramp } => amplitude * rise(t, *ramp) * maths::sin(2.0 * PI * frequency * t),
             Self::Table { samples } => samples.get(step).copied().unwrap_or(0.0),
         }
     }
@@ -39,7 +40,7 @@ impl Source {
 
     /// The highest frequency with a part of the spectrum worth counting (1e-16 of its largest); None where that cannot be told.
     pub fn highest_frequency(&self) -> Option<f64> {
-        let spread = |width: f64| (1e16f64).ln().sqrt() / (PI * width);
+        let spread = |width: f64| maths::ln(1e16).sqrt() / (PI * width);
         match self {
             Self::Gaussian { width, .. } => Some(spread(*width)),
             Self::Modulated { width, frequency, .. } => Some(frequency + spread(*width)),
@@ -55,6 +56,6 @@ fn rise(t: f64, ramp: f64) -> f64 {
     } else if t <= 0.0 {
         0.0
     } else {
-        0.5 - 0.5 * (PI * t / ramp).cos()
+        0.5 - 0.5 * maths::cos(PI * t / ramp)
     }
 }

@@ -1,5 +1,6 @@
 //! Fourier sums that are taken while a study runs.
 
+use crate::maths;
 use crate::study::{Field, Study};
 use std::f64::consts::PI;
 use std::ops::{Add, Div, Mul, Sub};
@@ -18,17 +19,17 @@ impl Complex {
 
     /// exp(i angle)
     pub fn turn(angle: f64) -> Self {
-        let (im, re) = angle.sin_cos();
+        let (im, re) = maths::sin_cos(angle);
         Self { re, im }
     }
 
     pub fn norm(self) -> f64 {
-        self.re.hypot(self.im)
+        maths::hypot(self.re, self.im)
     }
 
     /// In radians, from -π to π.
     pub fn angle(self) -> f64 {
-        self.im.atan2(self.re)
+        maths::atan2(self.im, self.re)
     }
 
     pub fn scale(self, by: f64) -> Self {

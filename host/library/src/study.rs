@@ -3,9 +3,10 @@
 use crate::absorber::{CpmlConfig, tables};
 use crate::bindings::{Lent, cichowiej_cfl_number};
 use crate::constants::Constants;
-use crate::material::Material;
+use crate::material::{Material, Pole};
+use crate::maths;
 use crate::refusal::Refusal;
-use crate::stores::{LINE_PAD, lent};
+use crate::stores::{BLOCK_LENGTH, LINE_PAD, MATERIAL_LENGTH, MAX_POLE_SLOTS, MOST_MATERIALS, bytes, lent, sizes_fit};
 use std::f64::consts::PI;
 
 /// What a study is opened with: cells along x, y and z, their sizes in m, the time step in s, how many poles a material may have, and which constants it has.
@@ -19,10 +20,34 @@ pub struct Grid {
 }
 
 impl Grid {
-    /// The Courant number c Δt √(1/Δx² + 1/Δy² + 1/Δz²); a step is stable up to 1.
+    /// The Courant number c Δt √(1/Δx² + 1/Δy² + 1/Δz²). `courant_limit` says up to which one a step is stable.
     pub fn courant_number(&self) -> f64 {
         let [dx, dy, dz] = self.pitch;
         cichowiej_cfl_number(self.constants.c0(), dx, dy, dz, self.dt)
+    }
+
+    /// The Courant number up to which a step is stable in vacuum, with these axes periodic and walls at the ends of the others: √(Σ 1/Δ²) / √(Σ s²/Δ²), s the
+    /// sine of half the angle by which the shortest wave along an axis turns from cell to cell. It is 1 or more. An axis on which nothing can differ has s = 0:
+    /// one periodic cell, and one or two cells between walls, where the electric field along the walls is 0. (With one such cell the magnetic field along them
+    /// is moved by the incident wave alone: nothing runs in the grid.)
+    pub fn courant_limit(&self, periodic: [bool; 3]) -> f64 {
+        let sharpest = [0, 1, 2].map(|axis| sharpest(self.cells[axis], periodic[axis]));
+        self.sharpness([1.0; 3]) / self.sharpness(sharpest)
+    }
+
+    /// The same of the incident wave, which has a long line of its own along z.
+    pub fn line_limit(&self) -> f64 {
+        self.sharpness([1.0; 3]) / self.sharpness([0.0, 0.0, 1.0])
+    }
+
+    fn sharpness(&self, sines: [f64; 3]) -> f64 {
+        let parts = [0, 1, 2].map(|axis| (sines[axis] / self.pitch[axis]).powi(2));
+        parts.iter().sum::<f64>().sqrt()
+    }
+
+    /// The bytes of memory that a study of this grid takes; 0 for sizes that no study has.
+    pub fn memory(&self) -> u64 {
+        if sizes_fit(self.cells) && self.pole_slots <= MAX_POLE_SLOTS { bytes(self.cells, self.pole_slots) } else { 0 }
     }
 
     /// The highest frequency in Hz that the grid carries in vacuum, by the dispersion of Yee's scheme: sin(π f Δt) = c Δt √(Σ 1/Δ²) for the shortest waves, the
@@ -31,8 +56,16 @@ impl Grid {
         let axes = self.pitch.into_iter().zip(self.cells).filter(|(_, n)| *n > 1);
         let sum: f64 = axes.map(|(d, _)| 1.0 / (d * d)).sum();
         let sine = self.constants.c0() * self.dt * sum.sqrt();
-        sine.min(1.0).asin() / (PI * self.dt)
+        maths::asin(sine.min(1.0)) / (PI * self.dt)
     }
+}
+
+/// The sine of half the largest angle by which a wave turns from cell to cell along an axis of n cells: on a periodic one it turns n times by a whole of n-ths of
+/// 2π, and between walls, which stand on the first and the last cell, n - 1 times by a whole of such parts of π.
+fn sharpest(n: usize, periodic: bool) -> f64 {
+    let (turns, all) = if periodic { (2 * (n / 2), n) } else { (n.saturating_sub(2), n.saturating_sub(1)) };
+    // no turn at all of a single cell
+    maths::sin(0.5 * PI * turns as f64 / all.max(1) as f64)
 }
 
 /// Cells by half-open ranges of indices along x, y and z. Upper ends are cut to the grid; an empty or backward range has no cell.
@@ -262,6 +295,42 @@ impl Study {
             // the engine takes no others
             constants: Constants::numbered(usize::from(self.lent.block[73])).unwrap_or_default(),
         }
+    }
+
+    /// Up to which Courant number its steps are stable, as it stands: that of its grid times the least √(ε μ) of a cell, ε with what the poles that act add to it for
+    /// a field that changes its sign at each step; and that of the incident wave's line, where it has a region. In a grid of one material it is where the field
+    /// begins to grow; where materials lie side by side the field may stay beyond it.
+    pub fn courant_limit(&self) -> f64 {
+        let grid = self.grid();
+        let cells = grid.courant_limit(self.periodic()) * self.least_square().max(0.0).sqrt();
+        if self.has_region() { cells.min(grid.line_limit()) } else { cells }
+    }
+
+    /// The least ε μ of a cell.
+    fn least_square(&self) -> f64 {
+        let grid = self.grid();
+        let built = u32::from(self.lent.block[13]);
+        let of = |id: u32| self.material(MaterialId(id)).map_or(0.0, |material| material.alternating(grid.dt, grid.constants));
+        let poles: Vec<f64> = (0..built).map(of).collect();
+        let cells = self.lent.ids.len();
+        let (eps, rest) = self.lent.media.split_at(cells.min(self.lent.media.len()));
+        let added = |id: &u32| poles.get(*id as usize).copied().unwrap_or(0.0);
+        let squares = eps.iter().zip(rest).zip(&self.lent.ids).map(|((eps, mu), id)| (eps + added(id)) * mu);
+        // a NaN is no limit
+        squares.fold(f64::INFINITY, f64::min)
+    }
+
+    /// A material that was added; None where there is none with this number.
+    pub fn material(&self, id: MaterialId) -> Option<Material> {
+        let number = usize::try_from(id.number()).ok().filter(|number| *number < self.material_count())?;
+        let at = BLOCK_LENGTH - MATERIAL_LENGTH * MOST_MATERIALS + MATERIAL_LENGTH * number;
+        let double = |from: usize| self.double(at + from);
+        let pole = |place: usize| {
+            let from = 25 + 25 * place;
+            Pole::from_tagged(self.lent.block[at + from], [double(from + 1), double(from + 9), double(from + 17)])
+        };
+        let count = usize::from(self.lent.block[at + 24]).min(MAX_POLE_SLOTS);
+        Some(Material { eps_inf: double(0), sigma: double(8), mu_r: double(16), poles: (0..count).filter_map(pole).collect() })
     }
 
     pub fn periodic(&self) -> [bool; 3] {

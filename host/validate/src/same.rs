@@ -1,9 +1,10 @@
-//! The same slabs by the original Rust, and the layer's tables: equal in every bit, all NaNs counted as one.
+//! The same slabs by the original Rust, and the layer's tables: equal in every bit, all NaNs counted as one. The original takes the system's exp, ln and powf for
+//! the tables, and so they are taken here; how far the product's are from that, which has functions of its own, is told beside it.
 
 use crate::CONSTANTS;
 use crate::report::Section;
 use crate::slabs::{COURANT, Line, cases};
-use cichowiej::{Constants, CpmlConfig, Grid, Refusal};
+use cichowiej::{Constants, CpmlConfig, Functions, Grid, Refusal};
 use rayon::prelude::*;
 
 /// What was compared: how many numbers, and the first that differs.
@@ -16,6 +17,9 @@ pub struct Same {
 /// Whether there is an original, and where it was looked for.
 pub const FOUND: bool = cfg!(original);
 const FOLDER: &str = env!("ORIGINAL");
+
+/// The original's.
+pub const SYSTEM: Functions = Functions { exp: f64::exp, ln: f64::ln, powf: f64::powf };
 
 /// A line that says so.
 pub fn told() -> String {
@@ -40,11 +44,12 @@ pub trait Original {
 
 #[cfg(original)]
 mod compared {
-    use super::{Original, Same};
+    use super::{Original, SYSTEM, Same};
     use crate::random::Random;
+    use crate::report::largest;
     use crate::slabs::Line;
     use crate::{new, old};
-    use cichowiej::{Constants, Field, Refusal, tables};
+    use cichowiej::{Constants, Field, Functions, Refusal, tables_with};
 
     impl Same {
         /// Takes numbers side by side; `place` tells where they stand.
@@ -62,7 +67,7 @@ mod compared {
 
     /// ex and hy of every plane, and the incident wave at the planes that are used, after every step.
     fn slab_by<Theirs: Original>(line: &Line, filled: bool) -> Result<Same, Refusal> {
-        let (mut study, mut theirs, mut same) = (line.study(filled)?, Theirs::new(line, filled), Same::default());
+        let (mut study, mut theirs, mut same) = (line.study_with(filled, &SYSTEM)?, Theirs::new(line, filled), Same::default());
         let places = line.places();
         let planes = [places.before, places.wave, places.slab, places.behind];
         for (step, sample) in line.samples().into_iter().enumerate() {
@@ -95,15 +100,37 @@ mod compared {
         for _ in 0..count {
             let grid = random.grid(constants);
             let config = random.config(&grid);
-            let ours = tables(&grid, &config).unwrap_or_default();
+            let ours = tables_with(&grid, &config, &SYSTEM).unwrap_or_default();
             same.take(&ours, &theirs(&grid, &config), || format!("tables of {grid:?} with {config:?}"));
         }
         Some(same)
     }
+
+    /// The largest part by which numbers of the product's tables on the same grids differ from the original's: of 1/κ, of b and of c.
+    pub fn own_tables(count: u64, constants: Constants) -> Option<[f64; 3]> {
+        let (mut random, mut farthest) = (Random(1), [0.0; 3]);
+        for _ in 0..count {
+            let grid = random.grid(constants);
+            let config = random.config(&grid);
+            let by = |functions: Functions| tables_with(&grid, &config, &functions).unwrap_or_default();
+            // six tables for each cell of an axis
+            let which = grid.cells.into_iter().flat_map(|n| (0..6 * n).map(move |at| at / n % 3));
+            which.zip(by(Functions::OWN).into_iter().zip(by(SYSTEM))).for_each(|(which, (own, theirs))| {
+                farthest[which] = largest(farthest[which], part(own, theirs));
+            });
+        }
+        Some(farthest)
+    }
+
+    /// By which part one number differs from another; all NaNs are one.
+    fn part(own: f64, theirs: f64) -> f64 {
+        let same = own == theirs || (own.is_nan() && theirs.is_nan());
+        if same { 0.0 } else { (own - theirs) / theirs.abs().max(f64::MIN_POSITIVE) }
+    }
 }
 
 #[cfg(original)]
-pub use compared::{layer_tables, slab};
+pub use compared::{layer_tables, own_tables, slab};
 
 /// There is no original.
 #[cfg(not(original))]
@@ -114,6 +141,19 @@ pub fn slab(_: &Line, _: bool) -> Result<Option<Same>, Refusal> {
 #[cfg(not(original))]
 pub fn layer_tables(_: u64, _: Constants) -> Option<Same> {
     None
+}
+
+#[cfg(not(original))]
+pub fn own_tables(_: u64, _: Constants) -> Option<[f64; 3]> {
+    None
+}
+
+/// By which part of themselves 1/κ, b and c of the product's tables may differ from the original's. b is an exponential of up to 745; c has b - 1 in it, of which
+/// few bits are left where b is next to 1.
+const NEAR: [f64; 3] = [1e-12, 1e-11, 1e-6];
+
+pub fn are_near(farthest: [f64; 3]) -> bool {
+    farthest.iter().zip(NEAR).all(|(part, near)| *part < near)
 }
 
 /// Every slab at a size of cells, and its empty line.
@@ -138,6 +178,13 @@ pub fn section() -> Result<Section, Refusal> {
             say(&mut out, &format!("slabs at {fine} cells a wavelength{with}"), slabs(fine, constants)?);
         }
         say(&mut out, &format!("the layer's tables on 20000 random grids{with}"), layer_tables(20_000, constants));
+        if let Some(farthest) = own_tables(20_000, constants) {
+            let [kinv, b, c] = NEAR;
+            out.say(format!(
+                "the same by the library's own functions{with}: 1/κ to {kinv:e}, b to {b:e} and c to {c:e} of themselves"
+            ));
+            out.must(are_near(farthest), format!("own tables{with} differ by {farthest:?}"));
+        }
     }
     Ok(out)
 }

@@ -1,7 +1,10 @@
 //! Slabs on a line of cells: the studies, and what the engine and the difference equations give for them.
 
 use crate::{scheme, theory};
-use cichowiej::{CellBox, Complex, Constants, CpmlConfig, Grid, Material, PlaneSpectrum, Pole, Refusal, Source, Study};
+use cichowiej::tables_with;
+use cichowiej::{
+    CellBox, Complex, Constants, CpmlConfig, Functions, Grid, Material, PlaneSpectrum, Pole, Refusal, Source, Study,
+};
 use std::f64::consts::PI;
 
 /// A slab to be compared. It is one wavelength thick at the band's top.
@@ -97,10 +100,16 @@ impl Line {
 
     /// Opened, with its slab or without.
     pub fn study(&self, filled: bool) -> Result<Study, Refusal> {
-        let places = self.places();
-        let mut study = Study::open(&self.grid())?;
+        self.study_with(filled, &Functions::OWN)
+    }
+
+    /// The same with a layer whose tables are computed by other functions.
+    pub fn study_with(&self, filled: bool, functions: &Functions) -> Result<Study, Refusal> {
+        let (grid, places) = (self.grid(), self.places());
+        let config = layer(places.layer);
+        let mut study = Study::open(&grid)?;
         study.set_periodic([true, true, false])?;
-        study.set_boundary_cpml(&layer(places.layer))?;
+        study.set_boundary_tables(config.axes, config.thickness, &tables_with(&grid, &config, functions)?)?;
         if filled {
             let id = study.add_material(&self.case.material)?;
             study.assign_material_box(id, CellBox::planes(places.slab, places.slab + self.fine))?;

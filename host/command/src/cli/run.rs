@@ -1,9 +1,10 @@
 //! `cichowiej run`.
 
-use super::{Failure, Input, print, stop_flag};
+use super::interrupt::Interrupt;
+use super::{Failure, Input, print};
 use crate::curve::{named, other_constants};
-use crate::script;
-use crate::standing::Save;
+use crate::script::Script;
+use crate::standing::study_from;
 use std::path::PathBuf;
 use std::process::ExitCode;
 
@@ -22,13 +23,13 @@ pub struct Arguments {
 }
 
 pub fn run(arguments: &Arguments) -> Result<ExitCode, Failure> {
-    let script = Input::read(&arguments.script)?;
-    let study = arguments.from.as_deref().map(|path| Ok::<_, String>(Save::from_file(path)?.study)).transpose()?;
+    let interrupt = Interrupt::heard()?;
+    let script = Script::parse(&Input::read(&arguments.script)?)?;
+    let study = arguments.from.as_deref().map(study_from).transpose()?;
     if let Some(study) = &study {
         print(&format!("from a save of {} steps, absorbing layer works on {}\n", study.steps(), named(study.active())))?;
         other_constants(study.grid().constants).map_or(Ok(()), |line| print(&format!("{line}\n")))?;
     }
-    let stop = stop_flag()?;
-    script::run(study, &script, arguments.hex, &mut |answer| Ok(print(answer)?), &stop)?;
+    script.run(study, arguments.hex, &mut |answer| Ok(print(answer)?), &interrupt)?;
     Ok(ExitCode::SUCCESS)
 }

@@ -1,14 +1,15 @@
 //! `cichowiej keep`, `list`, `show`, `compare`, `verify` and `resume`: STANDING, a folder of saves.
 
-use super::{Failure, Input, print, stop_flag};
-use crate::script;
-use crate::standing::note::{Words, plain};
+use super::interrupt::Interrupt;
+use super::{Failure, Input, print};
+use crate::script::Script;
+use crate::standing::note::Words;
 use crate::standing::{Noted, Save, Standing, compare, list, short, show, verify};
+use crate::text::plain;
 use std::env;
 use std::io::{self, Write};
 use std::path::{Path, PathBuf};
-use std::process::{ExitCode, exit};
-use std::sync::atomic::{AtomicBool, Ordering};
+use std::process::ExitCode;
 
 #[derive(clap::Subcommand)]
 pub enum Command {
@@ -135,7 +136,7 @@ pub fn run(command: &Command) -> Result<ExitCode, Failure> {
 
 /// The commands that write nothing.
 fn read(command: &Command) -> Result<ExitCode, Failure> {
-    end_at_once()?;
+    let _interrupt = Interrupt::heard()?;
     let mut status = ExitCode::SUCCESS;
     let text = match command {
         Command::List(arguments) => list::list(&arguments.folder.standing())?,
@@ -155,48 +156,40 @@ fn read(command: &Command) -> Result<ExitCode, Failure> {
     Ok(status)
 }
 
-/// On Ctrl-C: there is nothing to bring to an end.
-fn end_at_once() -> Result<(), String> {
-    let end = || {
-        let _ = writeln!(io::stderr(), "cichowiej: interrupted; nothing was written");
-        exit(130)
-    };
-    ctrlc::set_handler(end).map_err(|e| format!("Ctrl-C: {e}"))
-}
-
 fn keep(arguments: &KeepArguments) -> Result<(), Failure> {
-    let stop = stop_flag()?;
+    let interrupt = Interrupt::heard()?;
     let standing = arguments.folder.standing();
     let grew_from = arguments.from.as_ref().map(|from| standing.resolve(from)).transpose()?;
     let save = Save::from_file(&arguments.save)?;
-    put(&standing, &save, Words { label: arguments.label.clone(), grew_from }, &stop)
+    put(&standing, &save, Words { label: arguments.label.clone(), grew_from }, &interrupt)
 }
 
 fn resume(arguments: &ResumeArguments) -> Result<(), Failure> {
-    let stop = stop_flag()?;
+    let interrupt = Interrupt::heard()?;
     let standing = arguments.folder.standing();
-    let parent = standing.save(&standing.resolve(&arguments.id)?)?;
+    let parent = standing.resolve(&arguments.id)?;
     let input = Input::read(&arguments.script)?;
-    if let Some(line) = script::begins_anew(&input) {
-        return Err(format!(
-            "{}:{line}: it begins another study, which would not have grown from this one: take run and keep",
-            input.name
-        )
-        .into());
+    let script = Script::parse(&input)?;
+    if let Some(line) = script.begins_anew() {
+        let told = "it begins another study, which would not have grown from this one: take run and keep";
+        return Err(format!("{}:{line}: {told}", input.name).into());
     }
     let mut out = |text: &str| print(text).map_err(Failure::from);
-    let study = script::run(Some(parent.study), &input, arguments.hex, &mut out, &stop)?;
+    let study = script.run(Some(standing.kept(&parent)?.study), arguments.hex, &mut out, &interrupt)?;
     let study = study.ok_or_else(|| format!("{}: there is no study at its end, and nothing is kept", input.name))?;
     let label = arguments.label.clone().unwrap_or_else(|| file_name(&arguments.script));
-    put(&standing, &Save::from_study(study)?, Words { label: Some(label), grew_from: Some(parent.id) }, &stop)
+    put(&standing, &Save::from_study(study)?, Words { label: Some(label), grew_from: Some(parent) }, &interrupt)
 }
 
-/// The last point at which Ctrl-C still leaves the folder as it was: a write that has begun is brought to its end.
-fn put(standing: &Standing, save: &Save, words: Words, stop: &AtomicBool) -> Result<(), Failure> {
-    if stop.load(Ordering::Relaxed) {
-        return Err(Failure::Interrupted);
+/// Ctrl-C leaves the folder as it was up to the first write: one that has begun is brought to its end.
+fn put(standing: &Standing, save: &Save, words: Words, interrupt: &Interrupt) -> Result<(), Failure> {
+    let there = standing.holds(save)?;
+    let _orderly = interrupt.orderly();
+    interrupt.check()?;
+    if !there {
+        standing.add(save)?;
     }
-    let before = standing.keep(save, words)?;
+    let before = standing.annotate(save, words)?;
     print(&format!("{}\n", short(&save.id)))?;
     if let Some(remark) = told(&before) {
         // standard output has the id alone, for a script
@@ -219,9 +212,8 @@ fn told(before: &Noted) -> Option<String> {
 
 fn compared(arguments: &CompareArguments) -> Result<String, String> {
     let standing = arguments.folder.standing();
-    let [first, second] = [&arguments.first, &arguments.second].map(|id| standing.resolve(id));
-    let (first, second) = (standing.save(&first?)?, standing.save(&second?)?);
-    compare::compare(&first.bytes, &second.bytes).ok_or_else(|| "the saves' records cannot be read".into())
+    let (first, second) = (standing.resolve(&arguments.first)?, standing.resolve(&arguments.second)?);
+    compare::compare_kept(&standing, [&first, &second])
 }
 
 fn file_name(path: &Path) -> String {

@@ -1,11 +1,12 @@
 //! A point's reading as a small file of text, from which every number comes back as it was.
 
-use crate::cli::{UNKNOWN, program, sha256};
-use crate::curve::study::Reading;
+use crate::curve::study::{Reading, Sums};
+use crate::digest::{UNKNOWN, program, sha256};
+use crate::document;
+use crate::text::brief;
 use cichowiej::{Complex, ENGINE, Layer};
 use serde::{Deserialize, Serialize};
 use std::io;
-use std::sync::OnceLock;
 use thiserror::Error;
 
 /// Why a point has no reading.
@@ -17,14 +18,12 @@ pub enum Unusable {
     Unreadable(io::Error),
     #[error("damaged")]
     Damaged,
-    #[error("of another head, whose SHA-256 is {0}")]
+    #[error("of another head, whose SHA-256 is {}", brief(.0))]
     OtherHead(String),
-    #[error("of another engine, {0}")]
+    #[error("of another engine, {}", brief(.0))]
     OtherEngine(String),
     #[error("of another build of this program")]
     OtherProgram,
-    #[error("computed with other mathematical functions than the rest, on a machine of another kind")]
-    OtherMaths,
     #[error("of another point, {0}")]
     OtherPoint(usize),
 }
@@ -55,16 +54,15 @@ impl TryFrom<String> for Bits {
 }
 
 /// Complex numbers as pairs, the real part first.
-type Sums = Vec<[Bits; 2]>;
+type Pairs = Vec<[Bits; 2]>;
 
 /// The file's keys.
 #[derive(Serialize, Deserialize)]
 #[serde(deny_unknown_fields)]
 struct Record {
     engine: String,
-    /// The program's SHA-256, and that of what its mathematical functions give.
+    /// The program's SHA-256.
     program: String,
-    maths: String,
     /// The head's SHA-256.
     input: String,
     point: usize,
@@ -74,15 +72,18 @@ struct Record {
     energy: Bits,
     peak: Bits,
     end: Bits,
-    transmitted: Sums,
-    reflected: Option<Sums>,
+    transmitted: Pairs,
+    reflected: Option<Pairs>,
+    /// After four fifths of the run.
+    early_transmitted: Pairs,
+    early_reflected: Option<Pairs>,
 }
 
-fn to_bits(sums: &[Complex]) -> Sums {
+fn to_bits(sums: &[Complex]) -> Pairs {
     sums.iter().map(|sum| [Bits(sum.re), Bits(sum.im)]).collect()
 }
 
-fn from_bits(sums: &Sums) -> Vec<Complex> {
+fn from_bits(sums: &Pairs) -> Vec<Complex> {
     sums.iter().map(|[re, im]| Complex::new(re.0, im.0)).collect()
 }
 
@@ -91,7 +92,6 @@ impl Record {
         Self {
             engine: ENGINE.into(),
             program: program(),
-            maths: maths(),
             input: digest.into(),
             point: number,
             layer_asked: reading.layer.map(|layer| layer.asked),
@@ -99,15 +99,21 @@ impl Record {
             energy: Bits(reading.energy),
             peak: Bits(reading.peak),
             end: Bits(reading.end),
-            transmitted: to_bits(&reading.transmitted),
-            reflected: reading.reflected.as_deref().map(to_bits),
+            transmitted: to_bits(&reading.sums.transmitted),
+            reflected: reading.sums.reflected.as_deref().map(to_bits),
+            early_transmitted: to_bits(&reading.early.transmitted),
+            early_reflected: reading.early.reflected.as_deref().map(to_bits),
         }
     }
 
     fn reading(&self) -> Reading {
+        let sums = |transmitted, reflected: Option<&Pairs>| Sums {
+            transmitted: from_bits(transmitted),
+            reflected: reflected.map(from_bits),
+        };
         Reading {
-            transmitted: from_bits(&self.transmitted),
-            reflected: self.reflected.as_ref().map(from_bits),
+            sums: sums(&self.transmitted, self.reflected.as_ref()),
+            early: sums(&self.early_transmitted, self.early_reflected.as_ref()),
             energy: self.energy.0,
             peak: self.peak.0,
             end: self.end.0,
@@ -130,15 +136,8 @@ pub fn text(digest: &str, number: usize, reading: &Reading) -> Result<String, to
     Ok(body + &seal)
 }
 
-/// A reading, and what the mathematical functions of its machine give.
-#[derive(Debug)]
-pub struct Read {
-    pub reading: Reading,
-    pub maths: String,
-}
-
 /// The reading in a file, which has to be whole, and that of this engine, program, head and point.
-pub fn parse(bytes: &[u8], digest: &str, number: usize) -> Result<Read, Unusable> {
+pub fn parse(bytes: &[u8], digest: &str, number: usize) -> Result<Reading, Unusable> {
     let record = whole(bytes).ok_or(Unusable::Damaged)?;
     if record.input != digest {
         return Err(Unusable::OtherHead(record.input));
@@ -152,26 +151,14 @@ pub fn parse(bytes: &[u8], digest: &str, number: usize) -> Result<Read, Unusable
     if record.point != number {
         return Err(Unusable::OtherPoint(record.point));
     }
-    Ok(Read { reading: record.reading(), maths: record.maths })
-}
-
-/// The SHA-256 of what exp, sin, cos, ln and powf give here for many numbers. The system's library chooses them by processor, and their last bits differ.
-pub fn maths() -> String {
-    static DIGEST: OnceLock<String> = OnceLock::new();
-    let numbers = || {
-        let at = |i: u32| f64::from(i) * 0.37 + 0.001;
-        let five = |x: f64| [(-1e-3 * x).exp(), x.sin(), x.cos(), x.ln(), (1e-3 * x).powf(3.3)];
-        let bytes: Vec<u8> = (0..20_000).map(at).flat_map(five).flat_map(f64::to_le_bytes).collect();
-        sha256(&bytes)
-    };
-    DIGEST.get_or_init(numbers).clone()
+    Ok(record.reading())
 }
 
 /// None where the last line is not that of the text above it, or the text is no record.
 fn whole(bytes: &[u8]) -> Option<Record> {
     let text = std::str::from_utf8(bytes).ok()?;
     let (body, last) = text.split_at_checked(text.rfind("sha256 = ")?)?;
-    if last == seal(body) { toml::from_str(body).ok() } else { None }
+    if last == seal(body) { document::parse(body).ok() } else { None }
 }
 
 #[cfg(test)]
@@ -179,9 +166,11 @@ mod tests {
     use super::*;
 
     fn reading() -> Reading {
+        let transmitted = vec![Complex::new(0.1, -0.0), Complex::new(f64::INFINITY, 5e-324), Complex::new(1.0 / 3.0, -1e300)];
+        let early = vec![Complex::new(0.2, 0.0), Complex::new(-5e-324, 1.0), Complex::new(1e-300, -0.0)];
         Reading {
-            transmitted: vec![Complex::new(0.1, -0.0), Complex::new(f64::INFINITY, 5e-324), Complex::new(1.0 / 3.0, -1e300)],
-            reflected: None,
+            sums: Sums { transmitted, reflected: None },
+            early: Sums { transmitted: early, reflected: Some(vec![Complex::new(-0.5, 0.25)]) },
             energy: f64::NAN,
             peak: -f64::NAN,
             end: f64::MIN_POSITIVE,
@@ -193,11 +182,13 @@ mod tests {
     fn every_number_comes_back() {
         let text = text("abc", 3, &reading()).unwrap();
         assert!(text.contains("energy = \"7ff8000000000000\"\npeak = \"7ff8000000000000\"\n"), "{text}");
-        let back = parse(text.as_bytes(), "abc", 3).unwrap().reading;
+        let back = parse(text.as_bytes(), "abc", 3).unwrap();
         let bits = |sums: &[Complex]| -> Vec<u64> { sums.iter().flat_map(|sum| [sum.re.to_bits(), sum.im.to_bits()]).collect() };
-        assert_eq!(bits(&back.transmitted), bits(&reading().transmitted));
+        assert_eq!(bits(&back.sums.transmitted), bits(&reading().sums.transmitted));
+        assert_eq!(bits(&back.early.transmitted), bits(&reading().early.transmitted));
+        assert_eq!(back.early.reflected, reading().early.reflected);
         assert!(back.energy.is_nan() && back.peak.is_nan() && back.end == f64::MIN_POSITIVE);
-        assert_eq!((back.layer, back.reflected.is_none()), (reading().layer, true));
+        assert_eq!((back.layer, back.sums.reflected.is_none()), (reading().layer, true));
     }
 
     #[test]

@@ -1,12 +1,14 @@
-//! What keeps a curve from being read: places in an order that has no transmission, boxes without a cell, a sheet of another weight, materials that give energy.
+//! What keeps a curve from being read: places in an order that has no transmission, boxes without a cell, a sheet of another weight, materials and layers that give
+//! energy.
 
 use crate::curve::plan::Plan;
 use crate::head::trouble::Trouble;
-use crate::head::{Cells, Edge, MaterialPart, PaperPart, PartOfPaper, PolePart};
+use crate::head::{Cells, Edge, LayerPart, MaterialPart, PaperPart, PartOfPaper, PolePart};
 use cichowiej::{Refusal, Source};
 
 pub fn check(plan: &Plan) -> Result<(), Trouble> {
     periodic(plan)?;
+    edge(&plan.head.edge)?;
     source(plan)?;
     materials(plan)?;
     boxes(plan)?;
@@ -22,6 +24,34 @@ fn periodic(plan: &Plan) -> Result<(), Trouble> {
         }
         _ => Ok(()),
     }
+}
+
+/// A number that is one, and not too small.
+fn at_least(key: &str, number: f64, least: f64) -> Result<(), Trouble> {
+    let good = number.is_finite() && number >= least;
+    if good { Ok(()) } else { Err(Trouble::at(key, format!("{number} has to be {least} or more"))) }
+}
+
+/// With other numbers a layer gives energy or has tables that are no numbers; with a sigma_scale of 0 it is weak, and warned of.
+fn edge(edge: &Edge) -> Result<(), Trouble> {
+    match edge {
+        Edge::Layer(part) => layer(part),
+        Edge::Lossy(part) => at_least("edge.lossy.sigma_max", part.sigma_max.0, 0.0),
+        Edge::Conductor(_) => Ok(()),
+    }
+}
+
+fn layer(part: &LayerPart) -> Result<(), Trouble> {
+    at_least("edge.layer.order", part.order, 0.0)?;
+    at_least("edge.layer.kappa_max", part.kappa_max, 1.0)?;
+    at_least("edge.layer.alpha_factor", part.alpha_factor, 0.0)?;
+    at_least("edge.layer.alpha_order", part.alpha_order, 0.0)?;
+    at_least("edge.layer.sigma_scale", part.sigma_scale, 0.0)?;
+    let target = part.target_reflection;
+    if target > 0.0 && target < 1.0 {
+        return Ok(());
+    }
+    Err(Trouble::at("edge.layer.target_reflection", format!("{target} has to be above 0 and below 1")))
 }
 
 /// A pulse without a width has no spectrum, and a negative one hides its own.
@@ -109,10 +139,7 @@ fn materials(plan: &Plan) -> Result<(), Trouble> {
 
 /// A material that takes energy and gives none.
 fn passive(part: &MaterialPart, key: &str) -> Result<(), Trouble> {
-    let number = |name: &str, number: f64, least: f64| {
-        let good = number.is_finite() && number >= least;
-        if good { Ok(()) } else { Err(Trouble::at(format!("{key}.{name}"), format!("{number} has to be {least} or more"))) }
-    };
+    let number = |name: &str, number: f64, least: f64| at_least(&format!("{key}.{name}"), number, least);
     number("eps_inf", part.eps_inf, 1.0)?;
     number("sigma", part.sigma.0, 0.0)?;
     number("mu_r", part.mu_r, f64::MIN_POSITIVE)?;

@@ -3,22 +3,49 @@
 use crate::curve::plan::{Plan, Point};
 use crate::head::trouble::Trouble;
 use crate::head::{Edge, Wave, axes};
-use cichowiej::{Complex, Layer, MaterialId, PlaneSpectrum, Refusal, Study};
+use cichowiej::{Complex, Layer, Material, MaterialId, PlaneSpectrum, Refusal, Study};
 use rayon::prelude::*;
 use std::collections::BTreeMap;
 use std::sync::atomic::{AtomicBool, Ordering};
 
-/// What a study gave, at each of the gauge's frequencies.
-#[derive(Debug, Clone)]
-pub struct Reading {
+/// Fourier sums over the two planes, at each of the gauge's frequencies.
+#[derive(Debug, Clone, PartialEq)]
+pub struct Sums {
     pub transmitted: Vec<Complex>,
     pub reflected: Option<Vec<Complex>>,
+}
+
+impl Sums {
+    /// How much comes through at a frequency; nothing where there is no such one.
+    pub fn through(&self, f: usize) -> f64 {
+        self.transmitted.get(f).map_or(0.0, |sum| sum.norm())
+    }
+}
+
+/// What a study gave.
+#[derive(Debug, Clone)]
+pub struct Reading {
+    pub sums: Sums,
+    /// The same after four fifths of the run.
+    pub early: Sums,
     /// The energy in J that went through the plane behind the sheet.
     pub energy: f64,
     /// The field's energy in J at its largest, and at the end.
     pub peak: f64,
     pub end: f64,
     pub layer: Option<Layer>,
+}
+
+impl Reading {
+    /// By how much the sums at a frequency moved in the last fifth of the run: what comes through as a part of itself or, where that is less than any gauge reads, of
+    /// -100 dB; what comes back as a part of the most that comes through any study, since it may be next to nothing by itself.
+    pub fn moved(&self, f: usize, most: f64) -> f64 {
+        let part = |end: &[Complex], early: &[Complex], of: f64| Some((*end.get(f)? - *early.get(f)?).norm() / of);
+        let through = part(&self.sums.transmitted, &self.early.transmitted, self.sums.through(f).max(LEAST_READ * most));
+        let back = self.sums.reflected.as_deref().zip(self.early.reflected.as_deref());
+        let back = back.and_then(|(end, early)| part(end, early, most));
+        through.into_iter().chain(back).fold(0.0, f64::max)
+    }
 }
 
 /// Told how many steps were made; told to stop by the flag.
@@ -29,6 +56,9 @@ pub struct Watch<'a> {
 
 /// Steps between two samples of the planes are never more, so that Ctrl-C is heard and the samples take little room.
 const LONGEST_STRIDE: usize = 4096;
+
+/// The least that is read of what comes through, as a part of the most: -100 dB.
+const LEAST_READ: f64 = 1e-5;
 
 /// How often in a run the field's energy is looked at.
 const LOOKS: usize = 200;
@@ -105,6 +135,22 @@ impl Plan<'_> {
         ((1.0 / (rate * self.grid.dt)) as usize).clamp(1, LONGEST_STRIDE)
     }
 
+    /// Up to which Courant number a step is stable: in the air of the head, along the incident wave's line, and in each of its materials, with the name of what has
+    /// the lowest limit.
+    pub fn courant_limit(&self) -> (f64, String) {
+        let grid = &self.grid;
+        let air = grid.courant_limit(axes(&self.head.periodic));
+        let sheets = self.points.iter().filter_map(|point| Some((point.name(), point.sheet.as_ref()?.material.clone())));
+        let others = self.materials().map(|(name, material)| (format!("material {name:?}"), material));
+        let limit = |material: &Material| {
+            let square = material.mu_r * (material.eps_inf + material.alternating(grid.dt, grid.constants));
+            air * square.max(0.0).sqrt()
+        };
+        let limits = sheets.chain(others).map(|(name, material)| (limit(&material), name));
+        let first = (air.min(grid.line_limit()), "air".to_string());
+        limits.fold(first, |least, next| if next.0 < least.0 { next } else { least })
+    }
+
     /// The refractive index of the fastest medium at high frequencies, the vacuum's or a lower one.
     fn least_index(&self) -> f64 {
         let sheets = self.points.iter().filter_map(|point| point.sheet.as_ref()).map(|sheet| sheet.material.clone());
@@ -131,12 +177,20 @@ impl Plan<'_> {
             if count == stride {
                 listener.take(&study).map_err(|refusal| Trouble::refused("planes", refusal))?;
             }
+            if self.is_early(done) && !self.is_early(done + stride) {
+                listener.early = listener.sums();
+            }
             if samples % look == 0 || done == self.steps {
                 listener.look(&study).map_err(|refusal| Trouble::refused("run", refusal))?;
             }
             (watch.moved)(count as u64);
         }
         Ok(Some(listener.reading(layer)))
+    }
+
+    /// Within the first four fifths of the run.
+    fn is_early(&self, done: usize) -> bool {
+        done.saturating_mul(5) <= self.steps.saturating_mul(4)
     }
 
     /// All points, the empty head first, as many at a time as there are threads; None where it was told to stop.
@@ -150,6 +204,7 @@ impl Plan<'_> {
 struct Listener {
     transmitted: PlaneSpectrum,
     reflected: Option<PlaneSpectrum>,
+    early: Sums,
     behind: usize,
     between: f64,
     energy: f64,
@@ -162,9 +217,11 @@ impl Listener {
         let planes = &plan.head.planes;
         let between = plan.stride() as f64 * plan.grid.dt;
         let spectrum = |k| PlaneSpectrum::new(k, &plan.frequencies, between);
+        let (transmitted, reflected) = (spectrum(planes.transmitted), planes.reflected.map(spectrum));
         Self {
-            transmitted: spectrum(planes.transmitted),
-            reflected: planes.reflected.map(spectrum),
+            early: sums(&transmitted, reflected.as_ref()),
+            transmitted,
+            reflected,
             behind: planes.transmitted,
             between,
             energy: 0.0,
@@ -188,15 +245,16 @@ impl Listener {
         Ok(())
     }
 
-    fn reading(self, layer: Option<Layer>) -> Reading {
-        let sums = |spectrum: PlaneSpectrum| spectrum.sums().to_vec();
-        Reading {
-            transmitted: sums(self.transmitted),
-            reflected: self.reflected.map(sums),
-            energy: self.energy,
-            peak: self.peak,
-            end: self.end,
-            layer,
-        }
+    fn sums(&self) -> Sums {
+        sums(&self.transmitted, self.reflected.as_ref())
     }
+
+    fn reading(self, layer: Option<Layer>) -> Reading {
+        Reading { sums: self.sums(), early: self.early, energy: self.energy, peak: self.peak, end: self.end, layer }
+    }
+}
+
+fn sums(transmitted: &PlaneSpectrum, reflected: Option<&PlaneSpectrum>) -> Sums {
+    let of = |spectrum: &PlaneSpectrum| spectrum.sums().to_vec();
+    Sums { transmitted: of(transmitted), reflected: reflected.map(of) }
 }

@@ -1,55 +1,72 @@
-//! On which line of a TOML text a key stands. The text is one that the reader of TOML has accepted, so that nothing is judged here.
+//! On which line of a TOML text a key stands. The text may be one that the reader of TOML has refused: nothing is judged here, and any text comes to its end.
 
+use crate::document::DEEPEST;
 use std::collections::BTreeMap;
 
-/// Lines by keys, written as in `sheet.moisture[1].percent`.
-#[derive(Debug, Clone, Default)]
-pub struct Lines {
-    first: BTreeMap<String, usize>,
-    /// Keys that stand once more, where they do so.
-    again: BTreeMap<String, usize>,
+/// The lines of a text's keys, these written as in `sheet.moisture[1].percent`.
+#[derive(Debug, Clone, Copy)]
+pub struct Lines<'a> {
+    text: &'a str,
 }
 
-impl Lines {
-    pub fn of(text: &str) -> Self {
-        let mut scanner = Scanner { rest: text, line: 1, lines: Self::default() };
-        scanner.document();
-        scanner.lines
+impl<'a> Lines<'a> {
+    pub fn of(text: &'a str) -> Self {
+        Self { text }
     }
 
     /// The line of a key, or of the nearest part around it that has one.
     pub fn line(&self, key: &str) -> usize {
-        let mut key = key;
-        loop {
-            if let Some(line) = self.first.get(key) {
-                return *line;
-            }
-            match key.rfind(['.', '[']) {
-                Some(end) => key = &key[..end],
-                None => return 1,
-            }
-        }
+        self.search(key).line
     }
 
     /// The line on which a key stands for the second time.
     pub fn again(&self, key: &str) -> Option<usize> {
-        self.again.get(key).copied()
+        self.search(key).again
     }
 
-    /// For a key and what is around it; the first line of each stays.
+    fn search<'k>(&self, key: &'k str) -> Search<'k> {
+        let found = Search { key, length: 0, line: 1, again: None };
+        let mut scanner = Scanner { rest: self.text, line: 1, depth: 0, found };
+        scanner.document();
+        scanner.found
+    }
+}
+
+/// A key that is looked for: how much of it has been found, the first line of that, and where the whole of it stands once more.
+struct Search<'k> {
+    key: &'k str,
+    length: usize,
+    line: usize,
+    again: Option<usize>,
+}
+
+impl Search<'_> {
+    /// A key that stands on a line.
     fn put(&mut self, key: &str, line: usize) {
-        if self.first.get(key).is_some_and(|first| *first != line) {
-            self.again.entry(key.to_string()).or_insert(line);
+        if key == self.key && self.length == key.len() && self.line != line {
+            self.again.get_or_insert(line);
         }
-        let ends = key.match_indices(['.', '[']).map(|(end, _)| end).chain([key.len()]);
-        for end in ends {
-            self.first.entry(key[..end].to_string()).or_insert(line);
+        let length = shared(self.key, key);
+        if length > self.length {
+            (self.length, self.line) = (length, line);
         }
     }
 }
 
+/// How much two keys share, in whole parts.
+fn shared(a: &str, b: &str) -> usize {
+    let same = a.bytes().zip(b.bytes()).take_while(|(a, b)| a == b).count();
+    let ends = |key: &str, at: usize| matches!(key.as_bytes().get(at), None | Some(b'.' | b'['));
+    (0..=same).rev().find(|at| ends(a, *at) && ends(b, *at)).unwrap_or(0)
+}
+
+/// A key with more letters is cut: no table's in a head comes near, and a text of such keys would be copied over and over.
+const LONGEST_KEY: usize = 512;
+
 fn joined(table: &str, key: &str) -> String {
-    if table.is_empty() { key.to_string() } else { format!("{table}.{key}") }
+    let room = LONGEST_KEY.saturating_sub(table.len());
+    let dot = if table.is_empty() { "" } else { "." };
+    table.chars().chain(dot.chars().chain(key.chars()).take(room)).collect()
 }
 
 /// How many tables each array of tables has so far.
@@ -63,13 +80,15 @@ fn placed(key: &str, counts: &Counts) -> String {
     })
 }
 
-struct Scanner<'a> {
+struct Scanner<'a, 'k> {
     rest: &'a str,
     line: usize,
-    lines: Lines,
+    /// In how many brackets.
+    depth: usize,
+    found: Search<'k>,
 }
 
-impl Scanner<'_> {
+impl Scanner<'_, '_> {
     fn take(&mut self, count: usize) -> &str {
         let (taken, rest) = self.rest.split_at(count.min(self.rest.len()));
         self.line += taken.matches('\n').count();
@@ -124,7 +143,7 @@ impl Scanner<'_> {
                 self.pair(&table);
                 continue;
             }
-            self.lines.put(&table, line);
+            self.found.put(&table, line);
         }
     }
 
@@ -154,7 +173,7 @@ impl Scanner<'_> {
     fn pair(&mut self, table: &str) {
         let line = self.line;
         let key = self.key(table);
-        self.lines.put(&key, line);
+        self.found.put(&key, line);
         if !self.takes("=") {
             self.skip();
         }
@@ -169,11 +188,20 @@ impl Scanner<'_> {
             }
         }
         if self.takes("[") {
-            self.array(key);
+            self.inside(|scanner| scanner.array(key));
         } else if self.takes("{") {
-            self.inline_table(key);
+            self.inside(|scanner| scanner.inline_table(key));
         } else if self.until(&[',', ']', '}', '#', '\n']).is_empty() {
             self.skip();
+        }
+    }
+
+    /// What stands in brackets. Where there are too many the reader of TOML has refused the text, and they are passed over.
+    fn inside(&mut self, read: impl FnOnce(&mut Self)) {
+        if self.depth < DEEPEST {
+            self.depth += 1;
+            read(self);
+            self.depth -= 1;
         }
     }
 
@@ -197,7 +225,7 @@ impl Scanner<'_> {
                 return;
             }
             let element = format!("{key}[{index}]");
-            self.lines.put(&element, self.line);
+            self.found.put(&element, self.line);
             self.value(&element);
             self.space();
             self.takes(",");
@@ -286,11 +314,25 @@ thick = 1
     #[test]
     fn no_text_holds_it_up() {
         for end in 0..TEXT.len() {
-            Lines::of(&TEXT[..end]);
-            Lines::of(&TEXT[end..]);
+            Lines::of(&TEXT[..end]).line("box[1].a");
+            Lines::of(&TEXT[end..]).line("box[1].a");
         }
         for text in ["]", "}", "=", ".", "a", "'", "[[", "a = {", "a = [", "a = [}", "a = {]", "\u{b5} = \\"] {
-            Lines::of(text);
+            Lines::of(text).line("a");
         }
+    }
+    /// Also where it takes for brackets what the reader of TOML takes for a string.
+    #[test]
+    fn no_text_is_too_deep_for_it() {
+        let many = 200_000;
+        for (open, close) in [("[", "]"), ("{a=", "}"), ("{a.a=[", "]}"), (".a", ""), ("[[", "]]"), ("\"a\".", "")] {
+            for begin in ["", "a = ", "\"\\\" = "] {
+                let text = format!("{begin}{}1{}\nb = 1\n", open.repeat(many), close.repeat(many));
+                Lines::of(&text).line("b.a.a");
+                Lines::of(&text[..text.len() / 3]).again("b");
+            }
+        }
+        let long = format!("\"{}\" = [{}]\n", ".".repeat(many), "1,".repeat(many));
+        assert_eq!(Lines::of(&long).line(&long[1..=many]), 1);
     }
 }

@@ -1,6 +1,8 @@
 //! What is wrong with a head's file, and at which key.
 
+use crate::document::DEEPEST;
 use crate::head::lines::Lines;
+use crate::text::plain;
 use cichowiej::Refusal;
 
 /// Something that keeps the curve from being computed.
@@ -9,9 +11,6 @@ pub struct Trouble {
     place: Place,
     message: String,
 }
-
-/// How deep brackets may stand in one another.
-const DEEPEST: usize = 64;
 
 #[derive(Debug, Clone, PartialEq)]
 enum Place {
@@ -38,19 +37,10 @@ impl Trouble {
         Self { place: Place::Line(line), message: short.into() }
     }
 
-    /// A text whose brackets stand deeper in one another than any head's or note's: the reader of TOML would run out of its stack.
-    pub fn of_depth(text: &str) -> Option<Self> {
-        let (mut depth, mut deepest) = (0_usize, 0);
-        for c in text.chars() {
-            match c {
-                '[' | '{' => depth += 1,
-                ']' | '}' => depth = depth.saturating_sub(1),
-                _ => {}
-            }
-            deepest = deepest.max(depth);
-        }
-        (deepest > DEEPEST)
-            .then(|| Self::at(".", format!("brackets stand {deepest} deep in one another, and {DEEPEST} are the most")))
+    /// A text whose parts stand deeper in one another than any head's, note's or point's.
+    pub fn of_depth(line: usize) -> Self {
+        let message = format!("brackets and dotted keys stand more than {DEEPEST} deep in one another");
+        Self { place: Place::Line(line), message }
     }
 
     /// What is TOML and no head. The message's words for Rust's types are put into a reader's.
@@ -71,14 +61,14 @@ impl Trouble {
         Self::at(key, plain)
     }
 
-    /// As it is printed: file, line, key, message.
+    /// As it is printed: file, line, key, message. Key and message may have words of the file.
     pub fn located(&self, file: &str, text: &str) -> String {
-        let message = &self.message;
+        let message = plain(&self.message);
         match &self.place {
             Place::Line(line) => format!("{file}:{line}: {message}"),
             // the whole file
             Place::Key(key) if key == "." => format!("{file}: {message}"),
-            Place::Key(key) => format!("{file}:{}: {key}: {message}", Lines::of(text).line(key)),
+            Place::Key(key) => format!("{file}:{}: {}: {message}", Lines::of(text).line(key), plain(key)),
         }
     }
 }

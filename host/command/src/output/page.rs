@@ -1,7 +1,8 @@
 //! The curve as one page without outside parts.
 
 use crate::curve::Curve;
-use crate::output::table::{columns, in_hertz, numbers};
+use crate::output::table::{cells, columns, digits, in_hertz};
+use crate::text::shown;
 
 const STYLE: &str = "\
 body{font:16px/1.5 system-ui,sans-serif;color:#111;background:#fff;margin:0 auto;max-width:60rem;padding:1rem;overflow-wrap:anywhere}\
@@ -15,7 +16,7 @@ pre{overflow-x:auto;background:#f6f6f6;padding:.8rem;font-size:.85rem}\
 @media print{body{max-width:none;padding:0}h2{break-after:avoid}.told,.warning,pre{background:none}pre{white-space:pre-wrap}\
 .wide svg{min-width:0}table{font-size:8pt}th{white-space:normal}th,td{padding:.1rem .3rem}}";
 
-/// What HTML takes for itself, written out.
+/// What HTML takes for itself, written out, and what it has no place for, by its code.
 fn escaped(text: &str) -> String {
     text.chars().fold(String::new(), |mut out, c| {
         match c {
@@ -23,7 +24,8 @@ fn escaped(text: &str) -> String {
             '<' => out.push_str("&lt;"),
             '>' => out.push_str("&gt;"),
             '"' => out.push_str("&quot;"),
-            _ => out.push(c),
+            '\n' | '\r' | '\t' => out.push(c),
+            _ => out.push_str(&shown(c)),
         }
         out
     })
@@ -39,8 +41,7 @@ fn table(names: &[String], rows: impl Iterator<Item = Vec<String>>) -> String {
 }
 
 fn curve_table(curve: &Curve) -> String {
-    let rows = numbers(curve).into_iter().map(|row| row.iter().map(|number| format!("{number:.4}")).collect());
-    table(&columns(curve), rows)
+    table(&columns(curve), cells(curve).into_iter())
 }
 
 /// The sheet at each moisture: its permittivity at the gauge's frequencies, and what fills it where it is a mixture.
@@ -54,8 +55,8 @@ fn sheet_table(curve: &Curve) -> String {
         let parts = row.sheet.shares.map(|parts| [parts.fibre, parts.water, parts.air]);
         let eps = |&f: &f64| row.sheet.material.permittivity(f, curve.constants);
         let eps = curve.frequencies.iter().map(eps).flat_map(|eps| [eps.re, -eps.im]);
-        let numbers = parts.into_iter().flatten().chain(eps).map(|number| format!("{number:.4}"));
-        [format!("{:.4}", row.sheet.moisture)].into_iter().chain(numbers).collect()
+        let numbers = parts.into_iter().flatten().chain(eps).map(digits);
+        [row.sheet.moisture.to_string()].into_iter().chain(numbers).collect()
     });
     table(&names, rows)
 }
@@ -65,7 +66,7 @@ pub fn html(curve: &Curve, picture: &str, input: &str, about: &[String]) -> Stri
     let title = escaped(&curve.title);
     let told = if curve.layer_is_missing() { "told missing" } else { "told" };
     let warnings: String =
-        curve.warnings.iter().map(|warning| format!("<p class=\"warning\">{}</p>\n", escaped(warning))).collect();
+        curve.warnings.iter().map(|warning| format!("<p class=\"warning\">{}</p>\n", escaped(&warning.to_string()))).collect();
     let notes: String = curve.notes.iter().chain(about).map(|line| format!("<li>{}</li>\n", escaped(line))).collect();
     // the picture without its XML head stands in the page itself
     let drawn = picture.find("<svg").map_or("", |from| &picture[from..]);

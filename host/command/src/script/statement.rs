@@ -3,8 +3,9 @@
 use super::words::{Words, read};
 use crate::head::constants;
 use crate::head::units::{Conductivity, Frequency, Length, Rate, Time};
+use crate::text::Kind;
 use cichowiej::{CellBox, Constants, CpmlConfig, Grid, Material, Pole, Source};
-use std::path::PathBuf;
+use std::path::{Path, PathBuf};
 
 #[derive(Debug, Clone)]
 pub enum Statement {
@@ -38,6 +39,8 @@ pub enum Statement {
     Run {
         steps: u32,
         source: Option<Source>,
+        /// The file that the source was read from, if it is a table.
+        table: Option<PathBuf>,
     },
     Energy,
     Plane(usize),
@@ -69,8 +72,8 @@ const KINDS: &str =
 pub fn statement(kind: &str, words: &mut Words) -> Result<Statement, String> {
     Ok(match kind {
         "material" => material(words)?,
-        "box" => Statement::Box { material: words.needed("a material")?.into(), cells: cells(words)? },
-        "halfspace" => Statement::Halfspace { material: words.needed("a material")?.into(), k0: words.number("k0")? },
+        "box" => Statement::Box { material: words.needed("a material")?, cells: cells(words)? },
+        "halfspace" => Statement::Halfspace { material: words.needed("a material")?, k0: words.number("k0")? },
         "numbers" => Statement::Numbers {
             eps_r: words.number_of("eps_r")?,
             mu_r: words.number_of("mu_r")?,
@@ -78,15 +81,15 @@ pub fn statement(kind: &str, words: &mut Words) -> Result<Statement, String> {
             cells: cells(words)?,
         },
         "edge" => Statement::Edge(edge(words)?),
-        "periodic" => Statement::Periodic(axes(words.needed("axes, as xy, or none")?)?),
+        "periodic" => Statement::Periodic(axes(&words.needed("axes, as xy, or none")?)?),
         "wave" => Statement::Wave(wave(words)?),
         "build" => Statement::Build,
-        "run" => Statement::Run { steps: words.number("the number of steps")?, source: source(words)? },
+        "run" => run(words)?,
         "energy" => Statement::Energy,
         "plane" => Statement::Plane(words.number("k")?),
         "reset" => Statement::Reset,
-        "save" => Statement::Save(words.needed("a file")?.into()),
-        "rewind" => Statement::Rewind(words.needed("a file")?.into()),
+        "save" => Statement::Save(words.file("a file")?),
+        "rewind" => Statement::Rewind(words.file("a file")?),
         _ => return Err(format!("there is no {kind:?}: take one of {KINDS}")),
     })
 }
@@ -101,7 +104,7 @@ pub struct Size {
 /// Of `size`.
 pub fn size(words: &mut Words) -> Result<Size, String> {
     let cells = [words.number("nx")?, words.number("ny")?, words.number("nz")?];
-    let named = |name| constants::read(name).map_err(|message| format!("constants: {message}"));
+    let named = |name: String| constants::read(&name).map_err(|message| format!("constants: {message}"));
     let constants = words.pair("constants").map_or(Ok(Constants::default()), named)?;
     Ok(Size { cells, pole_slots: words.number_or("poles", 0)?, constants })
 }
@@ -109,15 +112,15 @@ pub fn size(words: &mut Words) -> Result<Size, String> {
 /// Of `pitch`: the cell's sizes and the time step, behind a `size`.
 pub fn grid(size: Size, words: &mut Words) -> Result<Grid, String> {
     let Size { cells, pole_slots, constants } = size;
-    let mut length = |what: &str| Length::read(words.needed(what)?);
+    let mut length = |what: &str| Length::read(&words.needed(what)?);
     let dx = length("a length")?;
     let pitch = match words.next() {
         None => [dx; 3],
-        Some(dy) => [dx, Length::read(dy)?, Length::read(words.needed("dz")?)?],
+        Some(dy) => [dx, Length::read(&dy)?, Length::read(&words.needed("dz")?)?],
     };
     let dt = match (words.pair("dt"), words.pair("courant")) {
-        (Some(dt), None) => Time::read(dt)?,
-        (None, Some(courant)) => read::<f64>(courant, "courant")? * constants.largest_dt(pitch),
+        (Some(dt), None) => Time::read(&dt)?,
+        (None, Some(courant)) => read::<f64>(&courant, "courant")? * constants.largest_dt(pitch),
         _ => return Err("it needs dt= or courant=, one of the two".into()),
     };
     Ok(Grid { cells, pitch, dt, pole_slots, constants })
@@ -128,15 +131,15 @@ fn material(words: &mut Words) -> Result<Statement, String> {
     if name == "vacuum" || name.chars().all(|c| c.is_ascii_digit()) {
         return Err(format!("{name:?} is taken: vacuum and numbers name materials that a study has already"));
     }
-    let sigma = words.pair("sigma").map_or(Ok(0.0), Conductivity::read)?;
+    let sigma = words.pair("sigma").map_or(Ok(0.0), |word| Conductivity::read(&word))?;
     let material =
         Material { eps_inf: words.number_of("eps_inf")?, sigma, mu_r: words.number_or("mu_r", 1.0)?, poles: Vec::new() };
-    Ok(Statement::Material { name: name.into(), material })
+    Ok(Statement::Material { name, material })
 }
 
 /// Of `pole`.
 pub fn pole(words: &mut Words) -> Result<Pole, String> {
-    match words.needed("lorentz, drude or debye")? {
+    match words.needed("lorentz, drude or debye")?.as_str() {
         "lorentz" => Ok(Pole::Lorentz {
             delta_eps: words.number_of("delta_eps")?,
             omega0: words.quantity("omega0", Rate::read)?,
@@ -171,7 +174,7 @@ fn axes(word: &str) -> Result<[bool; 3], String> {
 }
 
 fn edge(words: &mut Words) -> Result<Edge, String> {
-    match words.needed("periodic, conductor, lossy or layer")? {
+    match words.needed("periodic, conductor, lossy or layer")?.as_str() {
         "periodic" => Ok(Edge::Periodic),
         "conductor" => Ok(Edge::Conductor),
         "lossy" => Ok(Edge::Lossy {
@@ -187,7 +190,7 @@ fn edge(words: &mut Words) -> Result<Edge, String> {
 fn layer(words: &mut Words) -> Result<CpmlConfig, String> {
     let usual = CpmlConfig::default();
     Ok(CpmlConfig {
-        axes: axes(words.pair("axes").ok_or("axes= is missing")?)?,
+        axes: axes(&words.value("axes")?)?,
         thickness: words.number_or("thickness", usual.thickness)?,
         order: words.number_or("order", usual.order)?,
         kappa_max: words.number_or("kappa_max", usual.kappa_max)?,
@@ -199,7 +202,7 @@ fn layer(words: &mut Words) -> Result<CpmlConfig, String> {
 }
 
 fn wave(words: &mut Words) -> Result<Wave, String> {
-    match words.needed("slab, injector or box")? {
+    match words.needed("slab, injector or box")?.as_str() {
         "slab" => Ok(Wave::Slab { k0: words.number("k0")?, k1: words.number("k1")? }),
         "injector" => Ok(Wave::Injector { k0: words.number("k0")? }),
         "box" => {
@@ -213,18 +216,31 @@ fn wave(words: &mut Words) -> Result<Wave, String> {
     }
 }
 
-/// What a run's source gives; none is a wave of nothing.
-fn source(words: &mut Words) -> Result<Option<Source>, String> {
-    let Some(kind) = words.next() else { return Ok(None) };
-    if kind == "table" {
-        let file = words.needed("a file of numbers")?;
-        let text = std::fs::read_to_string(file).map_err(|e| format!("{file}: {e}"))?;
-        let samples: Result<Vec<f64>, String> = text.split_whitespace().map(|word| read(word, file)).collect();
-        return Ok(Some(Source::Table { samples: samples? }));
-    }
+/// Of `run`; no source is a wave of nothing.
+fn run(words: &mut Words) -> Result<Statement, String> {
+    let steps = words.number("the number of steps")?;
+    let (source, table) = match words.next().as_deref() {
+        None => (None, None),
+        Some("table") => {
+            let file = words.file("a file of numbers")?;
+            (Some(read_table(&file)?), Some(file))
+        }
+        Some(kind) => (Some(source(kind, words)?), None),
+    };
+    Ok(Statement::Run { steps, source, table })
+}
+
+fn read_table(file: &Path) -> Result<Source, String> {
+    let (text, name) = (Kind::TABLE.read_text(file)?, file.display().to_string());
+    let samples: Vec<f64> = text.split_whitespace().map(|word| read(word, &name)).collect::<Result<_, _>>()?;
+    // as a pipe has it that was read before
+    if samples.is_empty() { Err(format!("{name}: there is no number in it")) } else { Ok(Source::Table { samples }) }
+}
+
+fn source(kind: &str, words: &mut Words) -> Result<Source, String> {
     let amplitude = words.number_or("amplitude", 1.0)?;
     let mut time = |name| words.quantity(name, Time::read);
-    Ok(Some(match kind {
+    Ok(match kind {
         "gaussian" => Source::Gaussian { amplitude, width: time("width")?, delay: time("delay")? },
         "modulated" => {
             let (width, delay) = (time("width")?, time("delay")?);
@@ -235,5 +251,5 @@ fn source(words: &mut Words) -> Result<Option<Source>, String> {
             Source::Continuous { amplitude, ramp, frequency: words.quantity("frequency", Frequency::read)? }
         }
         other => return Err(format!("there is no source {other:?}: take gaussian, modulated, continuous or table")),
-    }))
+    })
 }

@@ -1,43 +1,75 @@
 //! In which records and cells two saves differ, and by how much.
 
+use crate::standing::Standing;
 use crate::standing::list::{counted, product};
-use crate::standing::records::{Record, Shape, byte, constants, count, double, records, short};
+use crate::standing::records::{MARKS, Shape, byte, constants, count, double, payload, short, skip, whole};
+use crate::standing::stream::Stream;
 use cichowiej::MATERIAL_LENGTH;
+use std::io::{self, Read, Take};
 
 /// For two saves that differ in no number.
 const SAME_STUDY: &str = "the saves are of the same study; one is from an older library, which wrote no byte for the constants";
 
-/// The lines for two saves that the engine accepts.
-pub fn compare(first: &[u8], second: &[u8]) -> Option<String> {
-    if first == second {
-        return Some("the saves are equal\n".into());
-    }
-    let shapes = [Shape::of_save(first)?, Shape::of_save(second)?];
-    let (first, second) = (records(first)?, records(second)?);
-    let pairs = first.iter().zip(&second).filter(|(a, b)| a.payload != b.payload);
-    let mut lines: Vec<String> = pairs.flat_map(|(a, b)| differences(shapes, a, b)).collect();
-    if shapes[0].cells != shapes[1].cells {
-        let [a, b] = shapes.map(|shape| product(shape.cells));
-        lines.insert(0, format!("the sizes differ, {a} and {b} cells: what belongs to cells is not compared"));
-    }
-    if lines.is_empty() {
-        lines.push(SAME_STUDY.into());
-    }
-    Some(lines.iter().map(|line| format!("{line}\n")).collect())
+/// What is read at a time of each of two payloads: whole numbers of either length.
+const PIECE: usize = 1 << 16;
+
+/// The lines for two kept saves, each judged for itself and then read side by side, a piece at a time: two whole saves would be more than it takes to judge one.
+pub fn compare_kept(standing: &Standing, ids: [&str; 2]) -> Result<String, String> {
+    ids.iter().try_for_each(|id| standing.kept(id).map(drop))?;
+    side_by_side(standing, ids)
 }
 
-fn differences(shapes: [Shape; 2], a: &Record, b: &Record) -> Vec<String> {
-    let mark = a.mark;
-    let found = match mark {
-        "GH" => fields(a.payload, b.payload),
-        "ML" => materials(a.payload, b.payload),
-        _ if shapes[0].cells != shapes[1].cells => vec![],
-        // poles, with another number of slots
-        _ if a.payload.len() != b.payload.len() => vec!["not compared: the numbers of pole slots differ".into()],
-        "CI" => numbers(shapes[0], mark, ids(a.payload).zip(ids(b.payload))),
-        _ => numbers(shapes[0], mark, doubles(a.payload).zip(doubles(b.payload))),
+fn side_by_side(standing: &Standing, ids: [&str; 2]) -> Result<String, String> {
+    let told = |id: &str, message: &str| format!("{}: {message}", standing.save_path(id).display());
+    let opened = |id: &str| Stream::open(&standing.save_path(id)).map_err(|e| told(id, &e.to_string()));
+    let (mut first, mut second) = (opened(ids[0])?, opened(ids[1])?);
+    let text = compare(&mut first, &mut second);
+    for (id, stream) in ids.into_iter().zip([first, second]) {
+        if stream.digest().map_err(|e| told(id, &e.to_string()))? != id {
+            return Err(told(id, "it was changed while it was compared: try again"));
+        }
+    }
+    text.map_err(|e| format!("the saves' records cannot be read: {e}"))
+}
+
+/// The lines for two saves that the engine accepts.
+fn compare(first: &mut impl Read, second: &mut impl Read) -> io::Result<String> {
+    let mut both = |mark: &str| Ok::<_, io::Error>([whole(payload(first, mark)?)?, whole(payload(second, mark)?)?]);
+    let (grids, lists) = (both("GH")?, both("ML")?);
+    let [Some(a), Some(b)] = grids.each_ref().map(|grid| Shape::of_grid(grid)) else {
+        return Err(io::ErrorKind::InvalidData.into());
     };
-    found.iter().map(|line| format!("{mark}  {line}")).collect()
+    let mut lines = Vec::new();
+    if a.cells != b.cells {
+        let [a, b] = [a, b].map(|shape| product(shape.cells));
+        lines.push(format!("the sizes differ, {a} and {b} cells: what belongs to cells is not compared"));
+    }
+    lines.extend(fields(&grids[0], &grids[1]).iter().map(|line| format!("GH  {line}")));
+    lines.extend(materials(&lists[0], &lists[1]).iter().map(|line| format!("ML  {line}")));
+    for mark in MARKS.into_iter().skip(2) {
+        let found = record([a, b], mark, payload(first, mark)?, payload(second, mark)?)?;
+        lines.extend(found.map(|line| format!("{mark}  {line}")));
+    }
+    if lines.is_empty() {
+        lines.push(if grids[0] == grids[1] { "the saves are equal".into() } else { SAME_STUDY.into() });
+    }
+    Ok(lines.iter().map(|line| format!("{line}\n")).collect())
+}
+
+/// What there is to say of a record of numbers.
+fn record(shapes: [Shape; 2], mark: &str, a: Take<impl Read>, b: Take<impl Read>) -> io::Result<Option<String>> {
+    let same_cells = shapes[0].cells == shapes[1].cells;
+    if !same_cells || a.limit() != b.limit() {
+        skip(a)?;
+        skip(b)?;
+        // poles, with another number of slots
+        return Ok(same_cells.then(|| "not compared: the numbers of pole slots differ".into()));
+    }
+    let found = match mark {
+        "CI" => numbers(a, b, |bytes| f64::from(u32::from_le_bytes(bytes))),
+        _ => numbers(a, b, f64::from_le_bytes),
+    };
+    Ok(found?.line(shapes[0], mark))
 }
 
 /// How a field of the first record is written.
@@ -137,14 +169,6 @@ fn pole(material: &[u8], place: usize) -> Option<String> {
     Some(format!("{name}({})", numbers.collect::<Option<Vec<_>>>()?.join(", ")))
 }
 
-fn ids(payload: &[u8]) -> impl Iterator<Item = f64> + '_ {
-    payload.as_chunks().0.iter().map(|bytes| f64::from(u32::from_le_bytes(*bytes)))
-}
-
-fn doubles(payload: &[u8]) -> impl Iterator<Item = f64> + '_ {
-    payload.as_chunks().0.iter().map(|bytes| f64::from_le_bytes(*bytes))
-}
-
 /// Two numbers that differ, and where they stand in their record.
 #[derive(Clone, Copy)]
 struct Pair {
@@ -168,38 +192,81 @@ impl Pair {
     }
 }
 
-/// How many differ, the two that are farthest apart and the first two. +0.0 and -0.0 differ, by 0.
-fn numbers(shape: Shape, mark: &str, pairs: impl Iterator<Item = (f64, f64)>) -> Vec<String> {
-    let (mut all, mut differ) = (0, 0);
-    let mut ends: Option<(Pair, Pair)> = None;
-    for (index, (a, b)) in pairs.enumerate() {
-        all += 1;
+/// How many numbers differ, the first two that do and the two that are farthest apart. +0.0 and -0.0 differ, by 0.
+#[derive(Default)]
+struct Found {
+    all: usize,
+    differ: usize,
+    ends: Option<(Pair, Pair)>,
+}
+
+impl Found {
+    fn add(&mut self, a: f64, b: f64) {
         if a.to_bits() != b.to_bits() {
-            differ += 1;
-            let pair = Pair { index, a, b };
-            let (first, most) = ends.unwrap_or((pair, pair));
-            ends = Some((first, if pair.distance() > most.distance() { pair } else { most }));
+            self.differ += 1;
+            let pair = Pair { index: self.all, a, b };
+            let (first, most) = self.ends.unwrap_or((pair, pair));
+            self.ends = Some((first, if pair.distance() > most.distance() { pair } else { most }));
         }
+        self.all += 1;
     }
-    let line = |(first, most): (Pair, Pair)| {
+
+    fn line(&self, shape: Shape, mark: &str) -> Option<String> {
+        let (first, most) = self.ends?;
         let (first, most) = (first.text(shape, mark), most.text(shape, mark));
-        format!("{differ} of {} differ; most: {most}; first: {first}", counted(all, "number"))
-    };
-    ends.map(line).into_iter().collect()
+        Some(format!("{} of {} differ; most: {most}; first: {first}", self.differ, counted(self.all, "number")))
+    }
+}
+
+/// Of two payloads of one length.
+fn numbers<const N: usize>(a: Take<impl Read>, b: Take<impl Read>, number: fn([u8; N]) -> f64) -> io::Result<Found> {
+    let mut found = Found::default();
+    let (mut a, mut b) = (Pieces::of(a), Pieces::of(b));
+    while let (Some(a), Some(b)) = (a.next()?, b.next()?) {
+        let pairs = a.as_chunks().0.iter().zip(b.as_chunks().0);
+        pairs.for_each(|(a, b)| found.add(number(*a), number(*b)));
+    }
+    Ok(found)
+}
+
+/// A payload, piece by piece.
+struct Pieces<R> {
+    payload: Take<R>,
+    piece: Vec<u8>,
+}
+
+impl<R: Read> Pieces<R> {
+    fn of(payload: Take<R>) -> Self {
+        Self { payload, piece: Vec::new() }
+    }
+
+    fn next(&mut self) -> io::Result<Option<&[u8]>> {
+        let length = self.payload.limit().min(PIECE as u64) as usize;
+        self.piece.resize(length, 0);
+        self.payload.read_exact(&mut self.piece)?;
+        Ok((length > 0).then_some(&*self.piece))
+    }
 }
 
 #[cfg(test)]
 mod tests {
     use super::*;
+    use crate::digest::sha256;
     use cichowiej::{CellBox, Constants, Grid, Material, Pole, Study};
+    use std::fs;
 
     fn open(cells: [usize; 3], pole_slots: usize) -> Study {
         Study::open(&Grid { cells, pitch: [1e-3; 3], dt: 1e-12, pole_slots, constants: Constants::Old }).unwrap()
     }
 
     fn compared(a: &Study, b: &Study) -> Vec<String> {
-        let text = compare(&a.save().unwrap(), &b.save().unwrap()).unwrap();
-        text.lines().map(str::to_string).collect()
+        bytes_compared(&a.save().unwrap(), &b.save().unwrap()).lines().map(str::to_string).collect()
+    }
+
+    fn bytes_compared(mut a: &[u8], mut b: &[u8]) -> String {
+        let text = compare(&mut a, &mut b).unwrap();
+        assert!(a.is_empty() && b.is_empty());
+        text
     }
 
     #[test]
@@ -261,14 +328,33 @@ mod tests {
         let old = |save: &[u8]| [b"GH", &[73, 0, 0, 0][..], &save[6..79], &save[80..]].concat();
         let (a, mut b) = (open([1, 1, 9], 1), open([1, 1, 9], 1));
         let [first, second] = [a.save().unwrap(), old(&a.save().unwrap())];
-        assert_eq!(compare(&second, &second).unwrap(), "the saves are equal\n");
+        assert_eq!(bytes_compared(&second, &second), "the saves are equal\n");
         for pair in [[&first, &second], [&second, &first]] {
-            assert_eq!(compare(pair[0], pair[1]).unwrap(), format!("{SAME_STUDY}\n"));
+            assert_eq!(bytes_compared(pair[0], pair[1]), format!("{SAME_STUDY}\n"));
         }
         b.set_periodic([true, false, false]).unwrap();
-        assert_eq!(compare(&second, &b.save().unwrap()).unwrap(), "GH  periodic along x: no and yes\n");
+        assert_eq!(bytes_compared(&second, &b.save().unwrap()), "GH  periodic along x: no and yes\n");
         let new = Study::open(&Grid { constants: Constants::Si2019, ..a.grid() }).unwrap();
-        assert_eq!(compare(&second, &new.save().unwrap()).unwrap(), "GH  constants: old and 2019\n");
+        assert_eq!(bytes_compared(&second, &new.save().unwrap()), "GH  constants: old and 2019\n");
+    }
+
+    /// Between its judgement and its comparison: another save, a part of the save, more than the save.
+    #[test]
+    fn a_file_that_was_changed_is_told() {
+        let place = tempfile::tempdir().unwrap();
+        let standing = Standing::at(place.path());
+        let [a, b] = [open([2, 3, 4], 0), open([2, 3, 5], 0)].map(|study| study.save().unwrap());
+        let ids = [sha256(&a), sha256(&b)];
+        let compared = |bytes: &[u8]| {
+            fs::write(standing.save_path(&ids[1]), bytes).unwrap();
+            side_by_side(&standing, [&ids[0], &ids[1]])
+        };
+        fs::write(standing.save_path(&ids[0]), &a).unwrap();
+        assert!(compared(&b).unwrap().starts_with("the sizes differ"));
+        for changed in [&a[..], &b[..100], &b[..b.len() - 8], &[&b[..], b"!"].concat(), b"", b"this is no save"] {
+            let told = format!("{}: it was changed while it was compared: try again", standing.save_path(&ids[1]).display());
+            assert_eq!(compared(changed), Err(told));
+        }
     }
 
     #[test]

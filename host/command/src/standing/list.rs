@@ -1,11 +1,9 @@
 //! All that is kept, as a tree.
 
-use crate::standing::note::plain;
-use crate::standing::records::{FIRST_RECORD, Shape};
+use crate::standing::records::Shape;
 use crate::standing::tree::{Line, draw};
 use crate::standing::{Noted, Standing, is_digest, short};
-use std::fs::File;
-use std::io::Read;
+use crate::text::{open_file, plain};
 
 pub fn list(standing: &Standing) -> Result<String, String> {
     let names = standing.names()?;
@@ -33,13 +31,7 @@ fn line(standing: &Standing, id: &str) -> Line {
 
 /// Cells and steps from the save's first record, which is all that is read of it.
 fn sizes(standing: &Standing, id: &str) -> Option<([usize; 3], usize)> {
-    let path = standing.save_path(id);
-    if !path.metadata().ok()?.is_file() {
-        return None;
-    }
-    let mut bytes = Vec::new();
-    File::open(path).ok()?.take(FIRST_RECORD).read_to_end(&mut bytes).ok()?;
-    let shape = Shape::of_save(&bytes)?;
+    let shape = Shape::of_save(open_file(&standing.save_path(id)).ok()?)?;
     Some((shape.cells, shape.steps))
 }
 

@@ -1,5 +1,6 @@
 //! The note beside a save: what it is called, when it was kept and what it grew from, with the save's sizes.
 
+use crate::document;
 use crate::head::trouble::Trouble;
 use crate::standing::{date, is_digest};
 use cichowiej::Study;
@@ -24,6 +25,17 @@ pub struct Note {
     pub bytes: usize,
 }
 
+/// What a note says of its save.
+#[derive(Debug, Clone, Copy)]
+pub struct Numbers {
+    cells: [usize; 3],
+    pole_slots: usize,
+    materials: usize,
+    steps: usize,
+    time: f64,
+    bytes: usize,
+}
+
 /// What a person says of a save.
 #[derive(Debug, Clone, Default)]
 pub struct Words {
@@ -31,14 +43,11 @@ pub struct Words {
     pub grew_from: Option<String>,
 }
 
-impl Note {
+impl Numbers {
     /// Of a study whose save has so many bytes.
-    pub fn new(study: &Study, bytes: usize, kept: String, words: Words) -> Self {
+    pub fn of(study: &Study, bytes: usize) -> Self {
         let grid = study.grid();
         Self {
-            label: words.label,
-            kept,
-            grew_from: words.grew_from,
             cells: grid.cells,
             pole_slots: grid.pole_slots,
             materials: study.material_count(),
@@ -48,30 +57,8 @@ impl Note {
         }
     }
 
-    pub fn parse(text: &str) -> Result<Self, Trouble> {
-        Trouble::of_depth(text).map_or(Ok(()), Err)?;
-        let value: toml::Value = toml::from_str(text).map_err(|error| Trouble::of_text(&error, text))?;
-        let note: Self = serde_path_to_error::deserialize(value)
-            .map_err(|error| Trouble::of_value(&error.path().to_string(), &error.inner().to_string()))?;
-        if date::seconds(&note.kept).is_none() {
-            return Err(Trouble::at("kept", "this is no time as 2026-11-16T11:50:00Z"));
-        }
-        if note.grew_from.as_deref().is_some_and(|id| !is_digest(id)) {
-            return Err(Trouble::at("grew_from", "this is no SHA-256 in 64 hexadecimal digits"));
-        }
-        Ok(note)
-    }
-
-    /// The first number that is not the save's.
-    pub fn disagreement(&self, study: &Study, bytes: usize) -> Option<String> {
-        let of_save = Self::new(study, bytes, String::new(), Words::default());
-        let mut pairs = self.numbers().into_iter().zip(of_save.numbers());
-        let ((name, noted), (_, found)) = pairs.find(|(noted, found)| noted != found)?;
-        Some(format!("{name} is {noted} here and {found} in the save"))
-    }
-
     /// As texts, so that one NaN is the other's equal.
-    fn numbers(&self) -> [(&'static str, String); 6] {
+    fn named(&self) -> [(&'static str, String); 6] {
         [
             ("cells", format!("{:?}", self.cells)),
             ("pole_slots", self.pole_slots.to_string()),
@@ -83,10 +70,34 @@ impl Note {
     }
 }
 
-/// A text on one line of a terminal, whatever is in it.
-pub fn plain(text: &str) -> String {
-    let shown = |c: char| if c.is_control() { c.escape_default().to_string() } else { c.to_string() };
-    text.chars().map(shown).collect()
+impl Note {
+    pub fn new(numbers: Numbers, kept: String, words: Words) -> Self {
+        let Numbers { cells, pole_slots, materials, steps, time, bytes } = numbers;
+        Self { label: words.label, kept, grew_from: words.grew_from, cells, pole_slots, materials, steps, time, bytes }
+    }
+
+    pub fn parse(text: &str) -> Result<Self, Trouble> {
+        let note: Self = document::parse(text)?;
+        if date::seconds(&note.kept).is_none() {
+            return Err(Trouble::at("kept", "this is no time as 2026-11-16T11:50:00Z"));
+        }
+        if note.grew_from.as_deref().is_some_and(|id| !is_digest(id)) {
+            return Err(Trouble::at("grew_from", "this is no SHA-256 in 64 hexadecimal digits"));
+        }
+        Ok(note)
+    }
+
+    /// The first number that is not the save's.
+    pub fn disagreement(&self, of_save: &Numbers) -> Option<String> {
+        let mut pairs = self.numbers().named().into_iter().zip(of_save.named());
+        let ((name, noted), (_, found)) = pairs.find(|(noted, found)| noted != found)?;
+        Some(format!("{name} is {noted} here and {found} in the save"))
+    }
+
+    fn numbers(&self) -> Numbers {
+        let Self { cells, pole_slots, materials, steps, time, bytes, .. } = *self;
+        Numbers { cells, pole_slots, materials, steps, time, bytes }
+    }
 }
 
 #[cfg(test)]
@@ -98,7 +109,7 @@ mod tests {
         let grid = Grid { cells: [1, 2, 3], pitch: [1e-3; 3], dt: 1e-12, pole_slots: 0, constants: Constants::Old };
         let study = Study::open(&grid).unwrap();
         let words = Words { label: Some(label.into()), grew_from: Some("ab".repeat(32)) };
-        Note { time, ..Note::new(&study, 5000, date::text(951_782_400), words) }
+        Note { time, ..Note::new(Numbers::of(&study, 5000), date::text(951_782_400), words) }
     }
 
     #[test]
@@ -108,11 +119,11 @@ mod tests {
                 let note = note(label, time);
                 let text = toml::to_string(&note).unwrap();
                 let again = Note::parse(&text).unwrap();
-                assert!(again == note && again.numbers() == note.numbers(), "{text}");
+                assert!(again == note && again.numbers().named() == note.numbers().named(), "{text}");
             }
         }
         let endless = note("", f64::NAN);
-        assert_eq!(Note::parse(&toml::to_string(&endless).unwrap()).unwrap().numbers(), endless.numbers());
+        assert_eq!(Note::parse(&toml::to_string(&endless).unwrap()).unwrap().disagreement(&endless.numbers()), None);
     }
 
     #[test]
@@ -130,10 +141,5 @@ mod tests {
         assert!(fault("steps = 0", "").contains("steps"));
         assert!(fault("[1, 2, 3]", "[1, 2]").starts_with("n.toml:4: cells"));
         assert!(fault("steps = 0", "steps =").starts_with("n.toml:7: "));
-    }
-
-    #[test]
-    fn a_label_stays_on_its_line() {
-        assert_eq!(plain("a\nb\u{1b}[2Jc\u{9b}d żółć"), "a\\nb\\u{1b}[2Jc\\u{9b}d żółć");
     }
 }

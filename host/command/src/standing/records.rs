@@ -1,6 +1,7 @@
 //! A save's records, and what each of their numbers is (document 01, "The save").
 
-use cichowiej::{Constants, LINE_PAD};
+use cichowiej::{Constants, LINE_PAD, MATERIAL_LENGTH};
+use std::io::{self, Read, Take};
 
 /// In their order.
 pub const MARKS: [&str; 11] = ["GH", "ML", "CI", "CM", "FE", "FH", "LE", "LH", "LT", "PP", "AX"];
@@ -8,28 +9,37 @@ pub const MARKS: [&str; 11] = ["GH", "ML", "CI", "CM", "FE", "FH", "LE", "LH", "
 /// The first record's payload ends in the constants. A save of an older library has no byte for them, and the old ones.
 const GRID_LENGTH: usize = 74;
 const OLD_GRID_LENGTH: usize = 73;
-/// The first record with its frame, where it is longest.
-pub const FIRST_RECORD: u64 = 6 + GRID_LENGTH as u64;
 
-/// A record: its mark and its payload.
-#[derive(Debug, Clone, Copy)]
-pub struct Record<'a> {
-    pub mark: &'static str,
-    pub payload: &'a [u8],
+/// A payload that is read whole is never longer: the materials'.
+const LONGEST_WHOLE: u64 = 16 * MATERIAL_LENGTH as u64;
+
+/// The payload of the next record of a save, which has to have this mark. It has to be read to its end before the next.
+pub fn payload<'a, R: Read>(save: &'a mut R, mark: &str) -> io::Result<Take<&'a mut R>> {
+    let mut frame = [0; 6];
+    save.read_exact(&mut frame)?;
+    let [first, second, length @ ..] = frame;
+    if mark.as_bytes() != [first, second] {
+        return Err(io::ErrorKind::InvalidData.into());
+    }
+    Ok(save.take(u32::from_le_bytes(length).into()))
 }
 
-/// The records of a save; None where it is none.
-pub fn records(save: &[u8]) -> Option<Vec<Record<'_>>> {
-    let mut rest = save;
-    MARKS.iter().map(|mark| take(mark, &mut rest)).collect()
+/// All of a short payload.
+pub fn whole(mut payload: Take<impl Read>) -> io::Result<Vec<u8>> {
+    let length = payload.limit();
+    if length > LONGEST_WHOLE {
+        return Err(io::ErrorKind::InvalidData.into());
+    }
+    let mut bytes = vec![0; length as usize];
+    payload.read_exact(&mut bytes)?;
+    Ok(bytes)
 }
 
-fn take<'a>(mark: &'static str, rest: &mut &'a [u8]) -> Option<Record<'a>> {
-    let after = rest.strip_prefix(mark.as_bytes())?;
-    let (length, after) = after.split_first_chunk::<4>()?;
-    let (payload, after) = after.split_at_checked(u32::from_le_bytes(*length) as usize)?;
-    *rest = after;
-    Some(Record { mark, payload })
+/// Reads over a payload.
+pub fn skip(mut payload: Take<impl Read>) -> io::Result<()> {
+    let length = payload.limit();
+    let skipped = io::copy(&mut payload, &mut io::sink())?;
+    if skipped == length { Ok(()) } else { Err(io::ErrorKind::UnexpectedEof.into()) }
 }
 
 fn bytes_at<const N: usize>(payload: &[u8], at: usize) -> Option<[u8; N]> {
@@ -71,8 +81,12 @@ pub struct Shape {
 
 impl Shape {
     /// From a save or its beginning.
-    pub fn of_save(save: &[u8]) -> Option<Self> {
-        let grid = take("GH", &mut &*save)?.payload;
+    pub fn of_save(mut save: impl Read) -> Option<Self> {
+        Self::of_grid(&payload(&mut save, "GH").and_then(whole).ok()?)
+    }
+
+    /// From the first record's payload.
+    pub fn of_grid(grid: &[u8]) -> Option<Self> {
         constants(grid)?;
         let cells = [short(grid, 0)?, short(grid, 2)?, short(grid, 4)?];
         Some(Self { cells, pole_slots: byte(grid, 14)?, steps: count(grid, 69)? as usize })
@@ -149,19 +163,27 @@ mod tests {
     use super::*;
     use cichowiej::{Grid, Study};
 
+    /// The lengths of a save's payloads.
+    fn skipped(mut save: &[u8]) -> io::Result<Vec<u64>> {
+        let mut one = |mark: &&str| {
+            let payload = payload(&mut save, mark)?;
+            let length = payload.limit();
+            skip(payload).map(|()| length)
+        };
+        MARKS.iter().map(&mut one).collect()
+    }
+
     #[test]
     fn a_save_is_its_records() {
         let grid = Grid { cells: [2, 3, 4], pitch: [1e-3; 3], dt: 1e-12, pole_slots: 2, constants: Constants::Si2019 };
         let save = Study::open(&grid).unwrap().save().unwrap();
-        let found = records(&save).unwrap();
         let (n, l) = (24, 9);
         let lengths = [74, 125, 4 * n, 24 * n, 24 * n, 24 * n, 48 * n, 48 * n, 48 * l, 8 * (6 * 2 + 3) * n, 16 * (4 + 48)];
-        let payloads: Vec<usize> = found.iter().map(|record| record.payload.len()).collect();
-        assert_eq!(payloads, lengths);
+        assert_eq!(skipped(&save).unwrap(), lengths.map(|length| length as u64));
         assert_eq!(lengths.iter().sum::<usize>() + 6 * 11, save.len());
-        assert_eq!(Shape::of_save(&save), Some(Shape { cells: [2, 3, 4], pole_slots: 2, steps: 0 }));
+        assert_eq!(Shape::of_save(&save[..]), Some(Shape { cells: [2, 3, 4], pole_slots: 2, steps: 0 }));
         for end in 0..save.len() {
-            assert!(records(&save[..end]).is_none());
+            assert!(skipped(&save[..end]).is_err());
         }
     }
 
@@ -171,13 +193,13 @@ mod tests {
         let grid = Grid { cells: [2, 3, 4], pitch: [1e-3; 3], dt: 1e-12, pole_slots: 2, constants: Constants::Old };
         let save = Study::open(&grid).unwrap().save().unwrap();
         let with = |length: u8, at: usize, bytes: &[u8]| [b"GH", &[length, 0, 0, 0][..], &save[6..at], bytes].concat();
-        let shape = Shape::of_save(&save);
-        assert!(shape.is_some() && FIRST_RECORD == 80);
+        let shape = Shape::of_save(&save[..]);
+        assert!(shape.is_some());
         for first in [with(74, 79, &[0]), with(74, 79, &[1]), with(73, 79, &[]), with(73, 79, b"M")] {
-            assert_eq!(Shape::of_save(&first), shape, "{first:?}");
+            assert_eq!(Shape::of_save(&first[..]), shape, "{first:?}");
         }
         for first in [with(74, 79, &[2]), with(74, 79, &[]), with(75, 79, &[0, 0]), with(72, 78, &[])] {
-            assert_eq!(Shape::of_save(&first), None, "{first:?}");
+            assert_eq!(Shape::of_save(&first[..]), None, "{first:?}");
         }
     }
 

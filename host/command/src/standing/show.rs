@@ -2,14 +2,15 @@
 
 use crate::curve::named;
 use crate::standing::list::{counted, product};
-use crate::standing::note::{Note, plain};
-use crate::standing::{Noted, Save, Standing, short};
+use crate::standing::note::Note;
+use crate::standing::{Kept, Noted, Standing, short};
+use crate::text::plain;
 
 /// A line's name and text.
 type Named = (&'static str, String);
 
 pub fn show(standing: &Standing, id: &str) -> Result<String, String> {
-    let save = standing.save(id)?;
+    let save = standing.kept(id)?;
     let noted = standing.note(id);
     let mut lines = vec![("id", id.to_string())];
     lines.extend(of_note(standing, &noted, &save));
@@ -18,7 +19,7 @@ pub fn show(standing: &Standing, id: &str) -> Result<String, String> {
     Ok(lines.into_iter().map(|(name, text)| format!("{name:<15} {text}\n")).collect())
 }
 
-fn of_note(standing: &Standing, noted: &Noted, save: &Save) -> Vec<Named> {
+fn of_note(standing: &Standing, noted: &Noted, save: &Kept) -> Vec<Named> {
     let note = match noted {
         Noted::Nothing => return vec![("note", "none: keep the save again to give it one".into())],
         Noted::Damaged(message) => return vec![("note damaged", plain(message))],
@@ -26,7 +27,7 @@ fn of_note(standing: &Standing, noted: &Noted, save: &Save) -> Vec<Named> {
     };
     let label = plain(note.label.as_deref().unwrap_or("none"));
     let parent = note.grew_from.as_deref().map_or("nothing kept".into(), |id| called(standing, id));
-    let damage = note.disagreement(&save.study, save.bytes.len()).map(|message| ("note damaged", message));
+    let damage = note.disagreement(&save.numbers()).map(|message| ("note damaged", message));
     [("label", label), ("kept", note.kept.clone()), ("grew from", parent)].into_iter().chain(damage).collect()
 }
 
@@ -53,7 +54,7 @@ fn children(standing: &Standing, id: &str) -> Result<Vec<Named>, String> {
     Ok(heads.zip(found).map(|(head, (_, child))| (head, called(standing, child))).collect())
 }
 
-fn of_save(save: &Save) -> Result<Vec<Named>, String> {
+fn of_save(save: &Kept) -> Result<Vec<Named>, String> {
     let study = &save.study;
     let grid = study.grid();
     let energy = study.total_energy().map_err(|refusal| format!("the energy: refused as {refusal}"))?;
@@ -71,6 +72,6 @@ fn of_save(save: &Save) -> Result<Vec<Named>, String> {
         ("steps", study.steps().to_string()),
         ("time", format!("{:?} s", study.time())),
         ("energy", format!("{energy:?} J")),
-        ("length", counted(save.bytes.len(), "byte")),
+        ("length", counted(save.length, "byte")),
     ])
 }

@@ -68,17 +68,37 @@ impl Folder {
 
     /// `cichowiej curve head.toml`, in the folder.
     pub fn command(&self) -> Command {
+        self.command_of("head.toml")
+    }
+
+    /// The same of another file.
+    pub fn command_of(&self, file: &str) -> Command {
         let mut command = Command::new(cargo_bin("cichowiej"));
-        command.current_dir(self.0.path()).args(["curve", "head.toml"]);
+        command.current_dir(self.0.path()).args(["curve", file]);
         command
     }
 
-    /// What it ends with and prints, with more words behind it.
+    /// What it ends with and prints, with more words behind it; without the line on what the studies take.
     pub fn curve(&self, words: &[&str]) -> (i32, String, String) {
+        let (status, out, err) = self.told(words);
+        (status, out, without_studies(&err))
+    }
+
+    /// All that it prints.
+    pub fn told(&self, words: &[&str]) -> (i32, String, String) {
         let out = self.command().args(words).output().unwrap();
         let text = |bytes: Vec<u8>| String::from_utf8(bytes).unwrap();
         (out.status.code().unwrap(), text(out.stdout), text(out.stderr))
     }
+}
+
+/// Whether a line says what the studies take.
+pub fn is_of_studies(line: &str) -> bool {
+    line.contains(" stud") && line.contains("B") && line.starts_with(|c: char| c.is_ascii_digit())
+}
+
+pub fn without_studies(text: &str) -> String {
+    text.split_inclusive('\n').filter(|line| !is_of_studies(line)).collect()
 }
 
 /// The head with one line put in the place of another.

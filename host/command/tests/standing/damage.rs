@@ -2,6 +2,7 @@
 
 use crate::place::Place;
 use std::fs;
+use std::os::unix::fs::symlink;
 use std::process::Command;
 
 #[test]
@@ -36,7 +37,26 @@ fn damage_is_named_with_the_refusal_it_meets() {
     assert!(line(&ids[5]).contains(".save: its SHA-256 is ") && line(&ids[5]).contains("the engine takes it"), "{out}");
     assert!(!out.contains(&ids[6]) && !out.contains("README") && !out.contains("plan"), "{out}");
     assert!(line("a copy").ends_with("a copy.save: its name is no SHA-256"), "{out}");
-    assert!(out.ends_with("1 leftover of interrupted writes, harmless\n8 saves, 7 damaged\n"), "{out}");
+    assert!(out.ends_with("1 leftover of interrupted writes, harmless\n7 saves, 1 note without its save, 7 damaged\n"), "{out}");
+}
+
+/// A note is no save.
+#[test]
+fn saves_are_counted_as_saves() {
+    let place = Place::new();
+    let ids: Vec<String> = (1..=3).map(|steps| place.keep(20, steps, &[])).collect();
+    let counted = |words: &str| {
+        let (status, out, _) = place.run(&["verify"]);
+        assert_eq!((status, out.lines().last()), (i32::from(!words.ends_with(" 0 damaged")), Some(words)), "{out}");
+        out.matches("its save is not here").count()
+    };
+    assert_eq!(counted("3 saves, 0 damaged"), 0);
+    fs::remove_file(place.kept(&ids[0], ".save")).unwrap();
+    assert_eq!(counted("2 saves, 1 note without its save, 1 damaged"), 1);
+    fs::remove_file(place.kept(&ids[1], ".save")).unwrap();
+    assert_eq!(counted("1 save, 2 notes without their saves, 2 damaged"), 2);
+    place.flip(&ids[2], 0);
+    assert_eq!(counted("1 save, 2 notes without their saves, 3 damaged"), 2);
 }
 
 /// Someone has been at the notes: no save is hidden, and nothing hangs.
@@ -66,6 +86,23 @@ fn every_save_is_listed_whatever_the_notes_say() {
     assert!(line(&ids[5]).ends_with("n6  (its save is not here)"), "{text}");
 }
 
+/// A link to nothing has the name of a file and is none.
+#[test]
+fn a_link_to_nothing_is_not_taken_for_a_save() {
+    for ending in ["save", "toml"] {
+        let place = Place::new();
+        place.save("s.save", 20, 4);
+        let sum = Command::new("sha256sum").arg(place.path("s.save")).output().unwrap().stdout;
+        let name = format!("{}.{ending}", std::str::from_utf8(&sum[..64]).unwrap());
+        fs::create_dir(place.path("standing")).unwrap();
+        symlink("nowhere", place.path("standing").join(&name)).unwrap();
+        let err = place.bad(&["keep", "s.save"]);
+        assert!(err.contains(&format!("standing/{name}: this is a link to nothing; move it away")), "{err}");
+        fs::remove_file(place.path("standing").join(&name)).unwrap();
+        place.good(&["keep", "s.save"]);
+    }
+}
+
 /// A pipe in the folder is not waited for, nor a folder read.
 #[test]
 fn what_is_no_file_is_damage() {
@@ -75,6 +112,11 @@ fn what_is_no_file_is_damage() {
     assert!(Command::new("mkfifo").arg(&pipe).status().unwrap().success());
     fs::create_dir(place.path("standing").join(format!("{}.toml", "cd".repeat(32)))).unwrap();
     let (status, out, _) = place.run(&["verify"]);
-    assert!(status == 1 && out.contains("abab.save: this is no file") && out.ends_with("3 saves, 2 damaged\n"), "{out}");
+    assert!(
+        status == 1
+            && out.contains("abab.save: this is no file")
+            && out.ends_with("\n2 saves, 1 note without its save, 2 damaged\n"),
+        "{out}"
+    );
     assert_eq!(place.good(&["list"]).lines().count(), 3);
 }

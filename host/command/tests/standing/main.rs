@@ -1,6 +1,10 @@
 //! Saves that are kept: kept, listed, shown, compared, resumed, verified.
 
+#[path = "../common/child.rs"]
+mod child;
 mod damage;
+mod interrupt;
+mod memory;
 mod place;
 
 use cichowiej::Study;
@@ -8,8 +12,6 @@ use place::Place;
 use std::fs;
 use std::io::Write;
 use std::process::{Command, Stdio};
-use std::thread::sleep;
-use std::time::Duration;
 
 #[test]
 fn a_save_is_kept_under_its_digest_with_a_note() {
@@ -140,6 +142,30 @@ fn what_is_resumed_grows_into_a_tree() {
     assert!(place.good(&["show", &child]).contains(&format!("grew from       {root}  root\n")));
 }
 
+/// A pipe gives its table once, and so it is read once.
+#[test]
+fn what_is_resumed_with_a_table_from_a_pipe_is_the_same() {
+    let place = Place::new();
+    let root = place.keep(20, 4, &[]);
+    let by_file = place.good(&["resume", &root, "two.script"]);
+    let resumed = |script: &str| {
+        fs::write(place.path("pipe.script"), script).unwrap();
+        let mut command = place.command(&["resume", &root, "pipe.script"]);
+        let mut child = command.stdin(Stdio::piped()).stdout(Stdio::piped()).stderr(Stdio::piped()).spawn().unwrap();
+        child.stdin.take().unwrap().write_all(b"1.0 2.0\n").unwrap();
+        let out = child.wait_with_output().unwrap();
+        (out.status.code(), String::from_utf8(out.stdout).unwrap(), String::from_utf8(out.stderr).unwrap())
+    };
+    let (status, out, err) = resumed("run 2 table /dev/stdin\n");
+    assert_eq!((status, &out), (Some(0), &by_file));
+    assert!(err.contains("is there already") && err.contains("as \"two.script\""), "{err}");
+    // the second table finds nothing more
+    let before = place.files();
+    let (status, out, err) = resumed("run 2 table /dev/stdin\nrun 2 table /dev/stdin\n");
+    assert!(status == Some(1) && out.is_empty() && err.contains("pipe.script:2: /dev/stdin: there is no number in it"), "{err}");
+    assert!(place.files() == before);
+}
+
 #[test]
 fn a_resume_that_fails_keeps_nothing() {
     let place = Place::new();
@@ -230,25 +256,6 @@ fn older_saves_are_kept_as_they_are() {
         place.good(&["keep", &path]);
     }
     assert_eq!(place.good(&["verify"]), "6 saves, 0 damaged\n");
-}
-
-#[test]
-fn ctrl_c_ends_with_130_and_keeps_nothing() {
-    let place = Place::new();
-    place.keep(20, 4, &[]);
-    let before = place.files();
-    let pipe = place.path("pipe");
-    assert!(Command::new("mkfifo").arg(&pipe).status().unwrap().success());
-    let mut child = place.command(&["keep", "pipe"]).stderr(Stdio::null()).spawn().unwrap();
-    // the pipe is open once the command reads from it; the save comes after the signal
-    let mut writer = fs::File::options().write(true).open(&pipe).unwrap();
-    assert!(Command::new("kill").args(["-INT", &child.id().to_string()]).status().unwrap().success());
-    sleep(Duration::from_millis(300));
-    place.save("t.save", 20, 5);
-    writer.write_all(&fs::read(place.path("t.save")).unwrap()).unwrap();
-    drop(writer);
-    assert_eq!(child.wait().unwrap().code(), Some(130));
-    assert!(place.files() == before);
 }
 
 #[test]

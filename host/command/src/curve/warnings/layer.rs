@@ -1,8 +1,8 @@
 //! The absorbing layer: there at all, strong enough, with nothing in it.
 
 use crate::curve::plan::Plan;
-use crate::curve::study::Reading;
 use crate::output::table::in_hertz;
+use cichowiej::{Layer, maths};
 use std::f64::consts::PI;
 
 /// How many times the lowest gauge frequency the layer's α may lie at.
@@ -24,7 +24,7 @@ pub fn absent(plan: &Plan) -> Option<String> {
 
 pub fn weak(plan: &Plan) -> Option<String> {
     let layer = plan.layer_on_z()?;
-    let chosen_for = layer.target_reflection.powf(layer.sigma_scale);
+    let chosen_for = maths::powf(layer.target_reflection, layer.sigma_scale);
     // a conductivity that is too steep for the cells, or a stretch too strong, reflects by itself
     let graded = (2.0..=6.0).contains(&layer.order) && (1.0..=20.0).contains(&layer.kappa_max);
     let strong = layer.thickness >= LEAST_CELLS && graded && (LEAST_REFLECTION..=MOST_REFLECTION).contains(&chosen_for);
@@ -49,8 +49,8 @@ pub fn shifted(plan: &Plan) -> Option<String> {
 }
 
 /// What stands in the absorbing layer is weakened there.
-pub fn inside(plan: &Plan, readings: &[Reading]) -> Option<String> {
-    let works = readings.first().and_then(|empty| empty.layer).is_some_and(|layer| layer.active[2]);
+pub fn inside(plan: &Plan, layer: Option<Layer>) -> Option<String> {
+    let works = layer.is_some_and(|layer| layer.active[2]);
     let (thick, nz) = (plan.layer_on_z()?.thickness, plan.grid.cells[2]);
     let planes = &plan.head.planes;
     let (first, last) = plan.wave_planes();

@@ -1,4 +1,4 @@
--- The round trip as a caller meets it: a rewind handed the save of a study gives the study back, and bytes that a rewind takes are `ReadBack`. Assumes nothing.
+-- Bytes that a rewind takes are `ReadBack`. Assumes nothing.
 use Prim.Native.Nat.{ℕ}
 use mathlib.Core.Path.{_≡_, sym, ap, _∙_}
 use mathlib.Core.Bool.{true}
@@ -7,28 +7,16 @@ use lib.Dec.{T}
 use Rattle.codec.specs.Bytes.{bytesFit}
 use Rattle.grid.specs.declared.Record.{Record}
 use Rattle.grid.specs.declared.stores.Lengths.{Lengths}
-use Rattle.grid.specs.Canon.{canon}
-use Rattle.grid.specs.Stores.{Stores, outcome, settle, lengthsOf}
+use Rattle.grid.specs.Stores.{Stores}
 use Rattle.grid.proofs.Tests.{or-none}
 use Rattle.format.specs.Save.{saveBytes}
-use Rattle.format.specs.Rewind.{isOld, bytesFault, readRecord, readStores, rewindFault, rewindCall}
+use Rattle.format.specs.Rewind.{isOld, bytesFault, readRecord, readStores, rewindFault}
 use Rattle.format.specs.ReadBack.{widened, ReadBack}
 use Rattle.format.specs.Inner.Savable.{Savable}
-use Rattle.format.proofs.Back.{save-accepted, saved-fault, record-again, stores-again}
+use Rattle.format.proofs.Back.{saved-fault, record-again, stores-again}
 use Rattle.format.proofs.Again.{read-none, read-lengths, record-held, stores-held, read-canon, bytes-again}
 use Rattle.format.proofs.Widened.{bytes-widened, read-zero}
 use Rattle.format.proofs.Cut.{read-cut, read-trailing}
-
-module _ (r : Record) (s : Stores) (k : Savable r s) where
-  -- a rewind handed the save of a study, with stores of its lengths, gives the study: its record without what means nothing, and its stores
-  pub rewind-of-save : (standing : Record) (lent : Stores) → lengthsOf lent ≡ lengthsOf s → rewindCall standing lent (saveBytes r s) ≡ outcome 0 (canon r) s
-  unfolding rewindCall
-  rewind-of-save standing lent e =
-      let b = saveBytes r s in
-      ap (λ (l : Lengths). settle (rewindFault b l) standing lent (readRecord b) (readStores b)) e
-      ∙ ap (λ (f : ℕ). settle f standing lent (readRecord b) (readStores b)) (save-accepted r s (k .ok) (k .held) (k .fit) (k .kept))
-      ∙ ap (λ (q : Record). outcome 0 q (readStores b)) (record-again r s (k .ok) (k .held) (k .fit) (k .kept))
-      ∙ ap (outcome 0 (canon r)) (stores-again r s (k .ok) (k .held) (k .fit) (k .kept))
 
 -- ---- bytes without fault
 module _ (b : List ℕ) (bytes : T (bytesFit b)) (ok : bytesFault b ≡ 0) where

@@ -31,7 +31,7 @@ fn wide(x: u8) -> u64
 }
 
 // Floats by their patterns, with all NaNs as one.
-pub fn floats_apart(a: &[f64], b: &[f64]) -> usize
+fn floats_apart(a: &[f64], b: &[f64]) -> usize
     requires { ⌜ length (now a) ≡ length (now b) ⌝ }
     ensures { λ r. ⌜ r ≡ apart (length (now (a .entry))) (pattern (now (a .entry))) (pattern (now (b .entry))) ⌝ }
 {
@@ -44,7 +44,7 @@ pub fn floats_apart(a: &[f64], b: &[f64]) -> usize
     n
 }
 
-pub fn bytes_apart(a: &[u8], b: &[u8]) -> usize
+fn bytes_apart(a: &[u8], b: &[u8]) -> usize
     requires { ⌜ length (now a) ≡ length (now b) ⌝ }
     ensures { λ r. ⌜ r ≡ apart (length (now (a .entry))) (element (now (a .entry))) (element (now (b .entry))) ⌝ }
 {
@@ -55,4 +55,68 @@ pub fn bytes_apart(a: &[u8], b: &[u8]) -> usize
         i += 1usize;
     }
     n
+}
+
+// At how many places two lists differ, and whether a change that is made on purpose is seen.
+pub struct Compared {
+    pub apart: usize,
+    pub seen: u64,
+}
+
+// 1 where the two counts differ.
+fn told_apart(a: usize, b: usize) -> u64 {
+    if a == b {
+        return 0;
+    }
+    1
+}
+
+// A float with another pattern.
+fn another(x: f64) -> f64 {
+    if bits_of(x) == 0 {
+        return 1.0;
+    }
+    0.0
+}
+
+// What is compared is shown to be compared: the last number of b is changed, and the count has to change with it.
+pub fn floats_compared(a: &[f64], b: &mut [f64]) -> Compared
+    requires { ⌜ length (now a) ≡ length (now b) ⌝ }
+    ensures { λ r. ⌜ r .apart ≡ apart (length (now (a .entry))) (pattern (now (a .entry))) (pattern (now (b .entry))) ⌝ }
+{
+    let count = floats_apart(a, b);
+    let n = b.len();
+    if n == 0 {
+        return Compared {
+            apart: count,
+            seen: 0,
+        };
+    }
+    b[n - 1] = another(b[n - 1]);
+    let changed = floats_apart(a, b);
+    Compared {
+        apart: count,
+        seen: told_apart(count, changed),
+    }
+}
+
+// The same of bytes.
+pub fn bytes_compared(a: &[u8], b: &mut [u8]) -> Compared
+    requires { ⌜ length (now a) ≡ length (now b) ⌝ }
+    ensures { λ r. ⌜ r .apart ≡ apart (length (now (a .entry))) (element (now (a .entry))) (element (now (b .entry))) ⌝ }
+{
+    let count = bytes_apart(a, b);
+    let n = b.len();
+    if n == 0 {
+        return Compared {
+            apart: count,
+            seen: 0,
+        };
+    }
+    b[n - 1] = b[n - 1] ^ 1;
+    let changed = bytes_apart(a, b);
+    Compared {
+        apart: count,
+        seen: told_apart(count, changed),
+    }
 }

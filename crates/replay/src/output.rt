@@ -9,11 +9,13 @@ fn number(n: u64) {
     io::print_decimal(libc::STDOUT_FILENO, n);
 }
 
-fn say_counts(numbers: u64, apart: u64) {
+fn say_counts(numbers: u64, apart: u64, seen: u64) {
     number(numbers);
     text(b" numbers, ");
     number(apart);
-    text(b" apart\n");
+    text(b" apart, ");
+    number(seen);
+    text(b" changes seen\n");
 }
 
 fn say_sizes(o: Outcome) {
@@ -42,11 +44,11 @@ pub fn say(at: u32, o: Outcome) {
     }
     text(b": ");
     say_sizes(o);
-    say_counts(o.numbers, o.apart);
+    say_counts(o.numbers, o.apart, o.seen);
 }
 
-pub fn say_all(count: u32, numbers: u64, apart: u64) {
+pub fn say_all(count: u32, numbers: u64, apart: u64, seen: u64) {
     number(count as u64);
     text(b" studies, ");
-    say_counts(numbers, apart);
+    say_counts(numbers, apart, seen);
 }

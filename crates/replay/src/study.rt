@@ -5,8 +5,8 @@ ghost use Prim.Native.Nat.{_≤_, min};
 ghost use lib.Dec.{eqb};
 ghost use lib.ListN.{length};
 ghost use Rattle.replay.specs.Apart.{apart, pattern, together};
-use super::differ::bytes_apart;
-use super::differ::floats_apart;
+use super::differ::bytes_compared;
+use super::differ::floats_compared;
 use super::differ::plus;
 use super::input;
 use super::input::Counts;
@@ -25,13 +25,16 @@ pub struct Outcome {
     pub steps: usize,
     pub numbers: u64,
     pub apart: u64,
+    pub seen: u64,
 }
 
-// Answers that were read beside numbers: whether all were there, how many they were, and at how many places they differ.
+// Answers that were read beside numbers: whether all were there, how many they were, at how many places they differ, and in how many comparisons a change that was
+// made on purpose was seen.
 struct Seen {
     whole: bool,
     numbers: u64,
     apart: u64,
+    seen: u64,
 }
 
 fn no_study() -> Outcome {
@@ -44,30 +47,33 @@ fn no_study() -> Outcome {
         steps: 0,
         numbers: 0,
         apart: 0,
+        seen: 0,
     }
 }
 
 fn joined(a: Seen, b: Seen) -> Seen
-    ensures { λ r. ⌜ (r .whole ≡ (a .whole && b .whole)) × (r .numbers ≡ together (a .numbers) (b .numbers)) × (r .apart ≡ together (a .apart) (b .apart)) ⌝ }
+    ensures { λ r. ⌜ (r .whole ≡ (a .whole && b .whole)) × (r .numbers ≡ together (a .numbers) (b .numbers)) × (r .apart ≡ together (a .apart) (b .apart)) × (r .seen ≡ together (a .seen) (b .seen)) ⌝ }
 {
     Seen {
         whole: a.whole & b.whole,
         numbers: plus(a.numbers, b.numbers),
         apart: plus(a.apart, b.apart),
+        seen: plus(a.seen, b.seen),
     }
 }
 
 // Answers are read into b, and compared.
 fn see_into(xs: &[f64], b: &mut [f64]) -> Seen
     requires { ⌜ length (now xs) ≡ length (now b) ⌝ }
-    ensures { λ r. ⌜ (r .numbers ≡ length (now (xs .entry))) × (r .apart ≡ apart (length (now (xs .entry))) (pattern (now (xs .entry))) (pattern (now (b .exit)))) ⌝ }
+    ensures { λ r. ⌜ r .numbers ≡ length (now (xs .entry)) ⌝ }
 {
     let whole = input::read_floats(b);
-    let apart = floats_apart(xs, b);
+    let c = floats_compared(xs, b);
     Seen {
         whole,
         numbers: xs.len() as u64,
-        apart: apart as u64,
+        apart: c.apart as u64,
+        seen: c.seen,
     }
 }
 
@@ -79,6 +85,7 @@ fn see_floats(xs: &[f64]) -> Seen {
             whole: false,
             numbers: 0,
             apart: 0,
+            seen: 0,
         };
     }
     let mut b = [0.0; 864];
@@ -98,11 +105,12 @@ fn see_block(r: Record) -> Seen {
     let mut b = [0u8; BLOCK_LENGTH];
     block::put_record(&mut a, r);
     let whole = input::read_bytes(&mut b);
-    let apart = bytes_apart(&a, &b);
+    let c = bytes_compared(&a, &mut b);
     Seen {
         whole,
         numbers: 0,
-        apart: apart as u64,
+        apart: c.apart as u64,
+        seen: c.seen,
     }
 }
 
@@ -118,7 +126,7 @@ fn counted(refusal: u32, apart: u64, numbers: u64) -> u64
 
 // What is said of a study, all of which was read where `whole` is true.
 fn told(whole: bool, refusal: u32, r: Record, steps: usize, s: Seen) -> Outcome
-    ensures { λ o. ⌜ (o .whole ≡ (whole && s .whole)) × (o .numbers ≡ s .numbers) × (o .apart ≡ cond (eqb refusal 0) (s .apart) (s .numbers)) ⌝ }
+    ensures { λ o. ⌜ (o .whole ≡ (whole && s .whole)) × (o .numbers ≡ s .numbers) × (o .apart ≡ cond (eqb refusal 0) (s .apart) (s .numbers)) × (o .seen ≡ s .seen) ⌝ }
 {
     let apart = counted(refusal, s.apart, s.numbers);
     Outcome {
@@ -130,6 +138,7 @@ fn told(whole: bool, refusal: u32, r: Record, steps: usize, s: Seen) -> Outcome
         steps,
         numbers: s.numbers,
         apart,
+        seen: s.seen,
     }
 }
 

@@ -1,4 +1,5 @@
-// The sample studies of document 01 that are not in the theorem, run and compared with what the document says.
+// The sample studies of document 01 that are not in the theorem, run and compared with what the document says; and each once more with one thing stated
+// otherwise, so that it shows that it can tell.
 pub mod small;
 pub mod waves;
 
@@ -14,12 +15,17 @@ use cpml::memory;
 use grid::Record;
 use root::Spacings;
 
-fn say(what: &[u8], holds: bool) {
+fn say(what: &[u8], holds: bool, changed: bool) {
     io::write_all(libc::STDOUT_FILENO, what);
     if holds {
-        io::write_all(libc::STDOUT_FILENO, b": as stated\n");
+        io::write_all(libc::STDOUT_FILENO, b": as stated");
     } else {
-        io::write_all(libc::STDOUT_FILENO, b": OTHERWISE\n");
+        io::write_all(libc::STDOUT_FILENO, b": OTHERWISE");
+    }
+    if changed {
+        io::write_all(libc::STDOUT_FILENO, b", A CHANGE NOT SEEN\n");
+    } else {
+        io::write_all(libc::STDOUT_FILENO, b", a change seen\n");
     }
 }
 
@@ -173,19 +179,20 @@ fn magnetic_cleared<'a>(psi_e: &'a [f64], psi_h: &'a [f64]) -> bool
         & cleared(Psi::Hzy, psi_e, psi_h)
 }
 
-// Whether conducting walls clear all twelve memories of the line.
-fn memories_cleared(r: Record) -> bool {
+// Whether conducting walls clear all twelve memories of the line, the last number of which is then put to another.
+fn memories_cleared(r: Record, last: f64) -> bool {
     let mut psi_e = [1.5; 144];
     let mut psi_h = [1.5; 144];
     let mut tables = [1.5; 156];
     let o = walls::set_boundary_conductor(r, &mut psi_e, &mut psi_h, &mut tables);
+    psi_h[143] = last;
     let electric = electric_cleared(&psi_e, &psi_h);
     let magnetic = magnetic_cleared(&psi_e, &psi_h);
     (o.refusal == 0) & electric & magnetic
 }
 
-// Whether the lossy edge leaves sigma in a study of one cell.
-fn sigma_kept(r: Record) -> bool {
+// Whether the lossy edge leaves sigma, 0.25, in a study of one cell.
+fn sigma_kept(r: Record, stated: f64) -> bool {
     let a = LossyAbsorber {
         thickness: 9,
         order: 1,
@@ -196,23 +203,50 @@ fn sigma_kept(r: Record) -> bool {
     let mut tables = [0.0; 18];
     let mut media = [1.0, 1.0, 0.25];
     let o = walls::set_boundary_lossy(r, a, &mut psi_e, &mut psi_h, &mut tables, &mut media);
-    (o.refusal == 0) & same(media[2], 0.25)
+    (o.refusal == 0) & same(media[2], stated)
 }
 
 fn main() {
     let r = line();
-    say(b"n 24, thickness 0 inactive", inactive(r, 0));
-    say(b"n 24, thickness 11 active", active_on_z(r, 11));
-    say(b"n 24, thickness 12 inactive", inactive(r, 12));
-    say(b"all twelve memories cleared", memories_cleared(r));
-    say(b"lossy, n 1, sigma kept", sigma_kept(one_cell()));
+    let c = one_cell();
+    say(
+        b"n 24, thickness 0 inactive",
+        inactive(r, 0),
+        inactive(r, 11),
+    );
+    say(
+        b"n 24, thickness 11 active",
+        active_on_z(r, 11),
+        active_on_z(r, 12),
+    );
+    say(
+        b"n 24, thickness 12 inactive",
+        inactive(r, 12),
+        inactive(r, 11),
+    );
+    say(
+        b"all twelve memories cleared",
+        memories_cleared(r, 0.0),
+        memories_cleared(r, 1.5),
+    );
+    say(
+        b"lossy, n 1, sigma kept",
+        sigma_kept(c, 0.25),
+        sigma_kept(c, 0.5),
+    );
     say(
         b"a wave's line after one step and two",
-        waves::wave_sent(3.0, 0.5),
+        waves::wave_sent(3.0, 1000000000000000000.0, 1000000000000000000.0),
+        waves::wave_sent(3.0, 1000000000000000000.0, 2000000000000000000.0),
     );
-    say(b"a fresh save of 1,389 bytes", small::has_1389());
+    say(
+        b"a fresh save of 1,389 bytes",
+        small::has_length(1389),
+        small::has_length(1388),
+    );
     say(
         b"1,388 of them are 13, 1,390 are 16",
-        small::one_less_one_more(),
+        small::one_less_one_more(13),
+        small::one_less_one_more(16),
     );
 }

@@ -76,14 +76,14 @@ fn taken_up(save: &[u8]) -> u32 {
     o.refusal
 }
 
-// 1,389 bytes: with room for 1,390 the last one is left, with room for 1,388 it is refused.
-pub fn has_1389() -> bool {
+// 1,389 bytes, or as many as are stated: with room for 1,390 the last one is left, with room for 1,388 it is refused.
+pub fn has_length(stated: usize) -> bool {
     let r = opening::open_record(1, 1, 1, 0, unit_spacings(), 0);
     let mut roomy = [7u8; 1390];
     let mut narrow = [7u8; 1388];
     let w = written(&mut roomy);
     let n = written(&mut narrow);
-    (saves::save_length(r).length == 1389)
+    (saves::save_length(r).length == stated)
         & (w == 0)
         & (n == 12)
         & (roomy[1389] == 7)
@@ -99,12 +99,12 @@ fn cut_to(save: &[u8], n: usize) -> &[u8] {
     &save[0..n]
 }
 
-// All of it is taken up; 1,388 bytes are 13 Short, 1,390 are 16 Trailing.
-pub fn one_less_one_more() -> bool {
+// All of it is taken up; 1,388 bytes are 13 Short, or what is stated, 1,390 are 16 Trailing.
+pub fn one_less_one_more(stated: u32) -> bool {
     let mut out = [7u8; 1390];
     let w = written(&mut out);
     let all = taken_up(cut_to(&out, 1389));
     let less = taken_up(cut_to(&out, 1388));
     let more = taken_up(&out);
-    (w == 0) & (all == 0) & (less == 13) & (more == 16)
+    (w == 0) & (all == 0) & (less == stated) & (more == 16)
 }

@@ -36,7 +36,8 @@ fn after_one(line: &[f64], sample: f64) -> bool
         & same(line[PLACES + SOURCE], 0.0)
 }
 
-// hy has moved by the sample's slope on both sides of the source, and ex by that of hy; the second sample is added last. All spacings are 1.0.
+// hy has moved by the sample's slope on both sides of the source, and ex by that of hy, which is some 5e17 here; the second sample is added last, and shows where it
+// is as large. All spacings are 1.0.
 fn after_two(line: &[f64], first: f64, second: f64) -> bool
     requires { ⌜ length (now line) ≡ 104 ⌝ }
 {
@@ -53,8 +54,8 @@ fn after_two(line: &[f64], first: f64, second: f64) -> bool
         & same(line[SOURCE + 1], 0.0 - e * (0.0 - above))
 }
 
-// Whether the line is as stated after each of two steps.
-pub fn wave_sent(first: f64, second: f64) -> bool {
+// Whether the line is as stated after each of two steps, the second with the sample stated.
+pub fn wave_sent(first: f64, second: f64, stated: f64) -> bool {
     let s = Spacings {
         dx: 1.0,
         dy: 1.0,
@@ -126,7 +127,7 @@ pub fn wave_sent(first: f64, second: f64) -> bool {
         &mut aux,
         &ids,
     );
-    let two = after_two(&aux, first, second);
+    let two = after_two(&aux, first, stated);
     (o.refusal == 0)
         & (w.refusal == 0)
         & (p.refusal == 0)

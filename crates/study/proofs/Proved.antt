@@ -1,33 +1,39 @@
--- The engine meets the laws of histories, and so demand 3. Assumes nothing.
+-- The engine meets the three demands: the third by the laws of histories. Assumes nothing.
 use Prim.Native.Nat.{ℕ, zero, suc}
 use native.Mathlib.Omega.{arith}
 use mathlib.Core.Path.{_≡_, refl, sym, ap, subst, _∙_}
 use mathlib.Core.Bool.{Bool, true, false}
 use mathlib.Core.Option.{Option, none, some}
 use mathlib.Core.List.{List, []}
+use lib.Dec.{T}
+use lib.Ieee.{Float}
 use lib.ListN.{length}
-use Rattle.study.specs.History.{turned, given}
+use Rattle.study.specs.History.{turned, given, answerIn, does, Gives}
 use Rattle.study.specs.Inner.Laws.{Laws, Ticking}
 use Rattle.study.proofs.Standing.{no-outcome, claim, run-b, timed, resumes}
+use Rattle.codec.specs.Bytes.{bytesFit}
 use Rattle.grid.specs.declared.Record.{Record}
 use Rattle.grid.specs.Canon.{canon}
 use Rattle.grid.specs.Fault.{badStudy}
 use Rattle.grid.specs.Stores.{Stores, lengthsOf, Outcome, settle, faultWith}
+use Rattle.grid.specs.Vacuum.{epsOf, muOf, lightOf}
 use Rattle.opening.specs.Opening.{openStores}
+use Rattle.step.specs.Step.{stepFault, stepped, ticked, stepCall}
 use Rattle.block.specs.Inner.Held.{Held}
 use Rattle.block.specs.Block.{blockLength, blockFine, blockRecord}
 use Rattle.block.proofs.Turns.{block-long}
 use Rattle.format.specs.Save.{saveBytes, saveFault}
 use Rattle.format.specs.Rewind.{readRecord, readStores, rewindFault}
 use Rattle.format.specs.InMemory.{StoresHeld}
+use Rattle.format.proofs.Round.{Rewound, rewind-takes}
 use Rattle.calls.specs.Blocks.{lentBlock}
-use Rattle.study.specs.World.{World, Study, studyOf, ifFine, Lent, lentIn, Act, Answer, nothing, numbers, writtenIn}
+use Rattle.study.specs.World.{World, Study, studyOf, ifFine, Lent, lentIn, Act, step, Answer, nothing, numbers, puts, writtenIn}
 use Rattle.study.specs.Calls.{form, settled, lifted, actsOn, openedOf, savesIn, loadsFrom, weightOf, engine}
-use Rattle.study.specs.Demand.{Demand3}
+use Rattle.study.specs.Demand.{Demand1, Demand2, Demand3}
 use Rattle.study.proofs.Blocks.{under}
 use Rattle.study.proofs.Saved.{fault-canon, Saved, bytes-canon, restored, reread}
 use Rattle.study.proofs.Regular.{regular}
-use Rattle.study.proofs.Made.{roomy}
+use Rattle.study.proofs.Made.{roomy, judged-first}
 use Rattle.study.proofs.Returned.{returns}
 use Rattle.study.proofs.Runs.{run-steps}
 
@@ -150,4 +156,43 @@ demand-3 = record {
   clock = λ es A w t p q. timed engine laws clock es A w t p q;
   resumes = resumes engine laws;
   steps = run-steps;
+}
+
+-- ---- demand 1
+pub demand-1 : Demand1
+demand-1 = record {
+  returns = returns;
+  unwritten = λ e n a h r.
+      let g = subst (λ y. Gives engine (does engine (e .call) (studyOf (e .handed))) (e .handed) y (e .left)) r (h .gives) in
+      (g .1, h .told ∙ ap (λ y. puts (answerIn y) (e .lent)) r);
+  names = λ e n a h r. subst (λ y. Gives engine (does engine (e .call) (studyOf (e .handed))) (e .handed) y (e .left)) r (h .gives) .0;
+}
+
+-- ---- demand 2. Bytes that a rewind took, and the study that they gave
+took : (b : List ℕ) → T (bytesFit b) → (l : Lent) (a : Answer) (t : Study) → loadsFrom b l ≡ given a t → Rewound b × (t ≡ record { rec = readRecord b; kept = readStores b })
+took b bytes l a t e =
+    let k = was (lentBlock (rewindFault b (l .stores)) (l .block)) nothing nothing (record { rec = readRecord b; kept = readStores b }) a t e in
+    (rewind-takes b (l .stores) bytes (judged-first (rewindFault b (l .stores)) (l .block) (k .0)), k .2)
+
+-- an accepted step, from its own definition
+step-leaves : (t u : Study) (x : Float) (a : Answer) → actsOn (step x) (some t) ≡ given a u
+    → (u .rec ≡ ticked (t .rec)) × (u .kept ≡ stepped (epsOf (t .rec)) (muOf (t .rec)) (lightOf (t .rec)) (t .rec) x (t .kept))
+unfolding stepCall
+step-leaves t u x a e = go (stepFault (t .rec) (lengthsOf (t .kept)) (t .kept .ids) 1) e
+  where
+    after : Stores
+    after = stepped (epsOf (t .rec)) (muOf (t .rec)) (lightOf (t .rec)) (t .rec) x (t .kept)
+
+    go : (f : ℕ) → lifted (form (step x)) (settle f (t .rec) (t .kept) (ticked (t .rec)) after) (t .kept) ≡ given a u → (u .rec ≡ ticked (t .rec)) × (u .kept ≡ after)
+    go zero q =
+        let k = was 0 nothing nothing (record { rec = ticked (t .rec); kept = after }) a u q in
+        (ap (λ (y : Study). y .rec) (k .2), ap (λ (y : Study). y .kept) (k .2))
+    go (suc f) q = absurd (no-outcome (suc f) nothing a u q)
+
+pub demand-2 : Demand2
+demand-2 = record {
+  steps = step-leaves;
+  reads = λ w t u i n a e. let k = whose w t i in ap (λ b. loadsFrom b (lentIn w)) (ap writtenIn (saved-is n t a u e .1)) ∙ again n t a u (k .fitting) e w (k .kept) (k .long);
+  writes = λ b bytes l a t e new. let k = took b bytes l a t e in ap (λ (x : Study). saveBytes (x .rec) (x .kept)) (k .1) ∙ k .0 .said .again new;
+  widens = λ b bytes l a t e old. let k = took b bytes l a t e in ap (λ (x : Study). saveBytes (x .rec) (x .kept)) (k .1) ∙ k .0 .said .next old;
 }

@@ -1,6 +1,6 @@
 -- A run of the C functions that pins what the claim leaves open: two byte-equal saves, a branch that is left, a second opening of another size, a rewind across it into
--- memory of the old size, refused calls of every kind between. What stands of it is computed: after the rewind the LATEST copy with those bytes, which the reading between the
--- two saves is in and the second save itself is not. Faults are computed, bytes are not: what is asked of them are the laws of the format. Assumes nothing.
+-- memory of the old size, a second rewind, to a save of the branch that was left, refused calls of every kind between. What stands of it is computed: after the first rewind
+-- the LATEST copy with those bytes, which the reading between the two saves is in and the second save itself is not; after the second one the copy of the branch, step included. Faults are computed, bytes are not: what is asked of them are the laws of the format. Assumes nothing.
 use Prim.Native.Nat.{ℕ, suc}
 use native.Mathlib.Omega.{arith}
 use mathlib.Core.Path.{_≡_, refl, sym, ap, _∙_}
@@ -34,13 +34,13 @@ use Rattle.block.proofs.Turns.{block-long}
 use Rattle.block.proofs.Back.{fine-block, record-block}
 use Rattle.format.specs.InMemory.{StoresHeld}
 use Rattle.format.specs.Save.{saveLength, saveBytes, saveFault}
-use Rattle.format.specs.Rewind.{rewindFault}
+use Rattle.format.specs.Rewind.{isOld, rewindFault}
 use Rattle.format.proofs.Cut.{save-trailing}
 use Rattle.format.proofs.Same.{save-fit, save-names}
 use Rattle.calls.specs.Blocks.{lentBlock}
-use Rattle.study.specs.History.{sameBytes, opening, doing, saving, rewinding, Reply, refused, accepted, Made, Honest, RunA, begins, makes, RunB, idle, follows, latest, standing, calls, since, Agreed}
-use Rattle.study.specs.World.{World, Study, studyOf, lentIn, Opening, SaidOpening, Act, SaidAct, setPeriodic, step, totalEnergy, planeReading, Asked, Answer, nothing, numbers, floats, Room, puts}
-use Rattle.study.specs.Calls.{form, savesIn, replyOf, weightOf, engine}
+use Rattle.study.specs.History.{sameBytes, opening, doing, saving, rewinding, turned, given, Reply, refused, accepted, does, Made, Honest, RunA, begins, makes, RunB, idle, follows, latest, standing, calls, since, Agreed}
+use Rattle.study.specs.World.{World, Unchanged, Study, studyOf, lentIn, Opening, SaidOpening, Act, SaidAct, setPeriodic, step, totalEnergy, planeReading, Asked, Answer, nothing, numbers, floats, Room, puts}
+use Rattle.study.specs.Calls.{form, savesIn, loadsFrom, replyOf, weightOf, engine}
 use Rattle.study.proofs.Standing.{same-true, same-refl}
 use Rattle.study.proofs.Lengths.{step-long}
 use Rattle.study.proofs.Fits.{all-replicate, stepped-fit}
@@ -48,7 +48,7 @@ use Rattle.study.proofs.Remains.{open-holds, held-walls, held-tick}
 use Rattle.study.proofs.Blocks.{study-put, block-fit}
 use Rattle.study.proofs.Saved.{Saved, savable, restored, reread}
 use Rattle.study.proofs.Made.{LeftAs, honest-on, honest-none, roomy}
-use Rattle.study.proofs.Proved.{demand-3}
+use Rattle.study.proofs.Proved.{demand-1, demand-2, demand-3}
 
 -- ---- a world whose block holds the record r
 record Says (w : World) (r : Record) : Type 0 where
@@ -169,16 +169,23 @@ r₃ = withWalls r₂ (true ∷ false ∷ false ∷ []) (r₂ .active) false
 abbrev r₄ : Record
 r₄ = openRecord 1 1 2 0 unit 0
 
+-- a step more
+abbrev r₅ : Record
+r₅ = ticked r₂
+
+abbrev s₅ : Stores
+s₅ = stepped (epsOf r₂) (muOf r₂) (lightOf r₂) r₂ oneF s₂
+
 abbrev l₁ : Lengths
 l₁ = lengthsOf s₁
 
-faultless : (faultOf r₁ ≡ 0) × (faultOf r₂ ≡ 0) × (faultOf r₃ ≡ 0) × (faultOf r₄ ≡ 0)
+faultless : (faultOf r₁ ≡ 0) × (faultOf r₂ ≡ 0) × (faultOf r₃ ≡ 0) × (faultOf r₄ ≡ 0) × (faultOf r₅ ≡ 0)
 unfolding faultOf sizeFits sidesFit sideFits spacingsFit studyFits countsFit polesFit allBelow layerFits regionFits ofBits
-faultless = (refl, refl, refl, refl)
+faultless = (refl, refl, refl, refl, refl)
 
-canonical : (canon r₁ ≡ r₁) × (canon r₂ ≡ r₂) × (canon r₃ ≡ r₃) × (canon r₄ ≡ r₄)
+canonical : (canon r₁ ≡ r₁) × (canon r₂ ≡ r₂) × (canon r₃ ≡ r₃) × (canon r₄ ≡ r₄) × (canon r₅ ≡ r₅)
 unfolding canon keepFirst canonMaterial canonRegion
-canonical = (refl, refl, refl, refl)
+canonical = (refl, refl, refl, refl, refl)
 
 h₁ : Held r₁
 h₁ = open-holds 1 1 1 0 unit 0 (said 1) .held
@@ -212,6 +219,9 @@ w₃ = record { block = blockOf r₃; kept = s₂; bytes = block-fit r₃; fits 
 abbrev w₄ : World
 w₄ = record { block = blockOf r₄; kept = openStores r₄; bytes = block-fit r₄; fits = w₅ .fits }
 
+abbrev w₇ : World
+w₇ = record { block = blockOf r₅; kept = s₅; bytes = block-fit r₅; fits = stepped-fit (epsOf r₂) (muOf r₂) (lightOf r₂) r₂ oneF s₂ (w₂ .fits) }
+
 k₁ : Says w₁ r₁
 k₁ = record { is = refl; ok = faultless .0; held = h₁; canonical = canonical .0 }
 
@@ -223,6 +233,9 @@ k₃ = record { is = refl; ok = faultless .2; held = held-walls r₂ h₂ (true 
 
 k₄ : Says w₄ r₄
 k₄ = record { is = refl; ok = faultless .3; held = open-holds 1 1 2 0 unit 0 (said 2) .held; canonical = canonical .3 }
+
+k₅ : Says w₇ r₅
+k₅ = record { is = refl; ok = faultless .4; held = held-tick r₂ h₂ (omega arith); canonical = canonical .4 }
 
 -- ---- what the definitions come to
 judged : (faultWith r₁ l₁ ≡ 0) × (faultWith r₄ l₁ ≡ 4) × (faultWith r₄ (lengthsOf (openStores r₄)) ≡ 0)
@@ -246,6 +259,19 @@ stepping = (refl, refl)
 
 as-long : lengthsOf s₂ ≡ l₁
 as-long = step-long (epsOf r₁) (muOf r₁) (lightOf r₁) r₁ oneF s₁ 1 (stepping .1)
+
+-- the step from there: its faults are those of the first, since it left lengths and ids as they were
+same-ids : s₂ .ids ≡ s₁ .ids
+unfolding stepped
+same-ids = refl
+
+step-judged : stepFault r₂ l₁ (s₁ .ids) 1 ≡ 0
+unfolding faultLent faultOf sizeFits sidesFit sideFits spacingsFit studyFits countsFit polesFit allBelow layerFits regionFits storeLengths openStores ofBits stepFault freshIds sameLengths openMedia openTables inactive
+step-judged = refl
+
+stepping-on : outcome 0 r₅ s₅ ≡ stepCall (epsOf r₂) (muOf r₂) (lightOf r₂) r₂ oneF s₂
+unfolding stepCall
+stepping-on = rw (as-long, same-ids, step-judged)
 
 periodic-x : outcome 0 r₃ tt ≡ setPeriodicCall r₂ (true ∷ false ∷ false ∷ [])
 unfolding faultOf sizeFits sidesFit sideFits spacingsFit studyFits countsFit polesFit allBelow layerFits regionFits ofBits setPeriodicCall
@@ -335,12 +361,22 @@ e₁₄ = made (rewinding b₁ (lentIn w₃)) w₃ nothing (accepted nothing) w�
 abbrev e₁₅ : Made engine
 e₁₅ = made (saving 1389) w₁ (bare 1389) (accepted (numbers b₁)) w₁ (puts (numbers b₁) (bare 1389))
 
+-- back to the branch that was left, and on from there
+abbrev e₁₆ : Made engine
+e₁₆ = made (rewinding b₂ (lentIn w₁)) w₁ nothing (accepted nothing) w₂ nothing
+
+abbrev e₁₇ : Made engine
+e₁₇ = made (doing (step oneF)) w₂ nothing (accepted nothing) w₇ nothing
+
 -- up to the second opening, which joins what stands
 abbrev run₁₃ : List (Made engine)
 run₁₃ = e₁₃ ∷ e₁₂ ∷ e₁₁ ∷ e₁₀ ∷ e₉ ∷ e₈ ∷ e₇ ∷ e₆ ∷ e₅ ∷ e₄ ∷ e₃ ∷ e₂ ∷ e₁ ∷ []
 
 abbrev run₁₅ : List (Made engine)
 run₁₅ = e₁₅ ∷ e₁₄ ∷ run₁₃
+
+abbrev run₁₇ : List (Made engine)
+run₁₇ = e₁₇ ∷ e₁₆ ∷ run₁₅
 
 pub opened : Honest engine e₁
 opened = opens w₀ w₁ (cube 1) (said 1) r₁ refl k₁ refl (judged .0) (length-replicate {A = ℕ} blockLength 7)
@@ -392,6 +428,16 @@ is-run =
     (tt, inr (inr (inr (inr (inr (inr (inr (inr (inr (inr (inr (inl refl))))))))))))
     ) g₂ ((refl, refl), tt)
 
+g₁₇ : Honest engine e₁₇
+g₁₇ = acts w₂ r₂ k₂ (step oneF) (all-replicate held 1 oneF one-fits) nothing refl w₇ (outcome 0 r₅ s₅) stepping-on (study-put w₇ r₅ (k₅ .ok) (k₅ .held) refl) refl
+
+pub is-run₁₇ : RunA engine run₁₇
+is-run₁₇ =
+    makes e₁₇ (
+    makes e₁₆ is-run (resumed w₂ r₂ k₂ 1389 (fits₂ 1389 0 (room-for .2)) w₁ (sym as-long) (long w₁ r₁ k₁))
+    (tt, inr (inr (inr (inr (inr (inr (inr (inr (inl refl)))))))))
+    ) g₁₇ ((refl, refl), tt)
+
 -- ---- what stands. The saves of two studies are other bytes
 others : b₁ ≡ b₂ → ⊥
 unfolding canon
@@ -407,6 +453,13 @@ differ = go (sameBytes b₁ b₂) refl
   where
     go : (t : Bool) → sameBytes b₁ b₂ ≡ t → t ≡ false
     go true e = absurd (others (same-true b₁ b₂ e))
+    go false e = refl
+
+differ₂ : sameBytes b₂ b₁ ≡ false
+differ₂ = go (sameBytes b₂ b₁) refl
+  where
+    go : (t : Bool) → sameBytes b₂ b₁ ≡ t → t ≡ false
+    go true e = absurd (others (sym (same-true b₂ b₁ e)))
     go false e = refl
 
 -- up to the second opening everything that was accepted stands, refused calls do not
@@ -432,3 +485,47 @@ is-run-b = follows e₁₅ (follows e₄ (follows e₂ (follows e₁ idle opened
 
 pub agreed : Agreed engine run₁₅ run-b
 agreed = demand-3 .claim run₁₅ is-run run-b is-run-b (ap (calls engine) (sym stands₁₅))
+
+-- the second rewind puts back the copy of the branch's save: the step stands again, and the step after it
+branch-copy : (otherwise copy₁₅ copy₇ copy₅ copy₂ : List (Made engine))
+    → latest engine b₂ otherwise ((b₁, copy₁₅) ∷ (b₂, copy₇) ∷ (b₁, copy₅) ∷ (b₁, copy₂) ∷ []) ≡ copy₇
+branch-copy otherwise copy₁₅ copy₇ copy₅ copy₂ = rw (differ₂, same-refl b₂)
+
+pub stands₁₇ : standing engine run₁₇ ≡ e₁₇ ∷ e₆ ∷ e₅ ∷ e₄ ∷ e₂ ∷ e₁ ∷ []
+stands₁₇ = ap (λ (l : List (Made engine)). e₁₇ ∷ l) (branch-copy _ _ _ _ _)
+
+pub two-steps-stand : since engine weightOf (calls engine (standing engine run₁₇)) ≡ 2
+two-steps-stand = ap (λ (l : List (Made engine)). since engine weightOf (calls engine l)) stands₁₇
+
+abbrev run-b₁₇ : List (Made engine)
+run-b₁₇ = e₁₇ ∷ e₆ ∷ e₅ ∷ e₄ ∷ e₂ ∷ e₁ ∷ []
+
+pub is-run-b₁₇ : RunB engine run-b₁₇
+is-run-b₁₇ =
+    follows e₁₇ (
+    follows e₆ (
+    follows e₅ (
+    follows e₄ (follows e₂ (follows e₁ idle opened tt) g₂ (refl, refl)) g₄ (refl, refl)
+    ) (saves w₁ r₁ k₁ 2000 (room-for .1)) (refl, refl)
+    ) g₆ (refl, refl)
+    ) g₁₇ (refl, refl)
+
+pub agreed₁₇ : Agreed engine run₁₇ run-b₁₇
+agreed₁₇ = demand-3 .claim run₁₇ is-run₁₇ run-b₁₇ is-run-b₁₇ (ap (calls engine) (sym stands₁₇))
+
+-- ---- demands 1 and 2 on calls of this run: the refused opening left all as it was and named its fault; the save of the branch is read as the study that wrote it,
+-- which writes these bytes again
+pub left-alone : Unchanged (e₁₂ .handed) (e₁₂ .left) × (e₁₂ .back ≡ puts nothing (e₁₂ .lent))
+left-alone = demand-1 .unwritten e₁₂ 4 nothing not-opened refl
+
+pub named : does engine (e₁₂ .call) (studyOf w₁) ≡ turned 4 nothing
+named = demand-1 .names e₁₂ 4 nothing not-opened refl
+
+abbrev t₂ : Study
+t₂ = record { rec = r₂; kept = s₂ }
+
+pub taken-up : loadsFrom b₂ (lentIn w₂) ≡ given nothing t₂
+taken-up = demand-2 .reads w₂ t₂ t₂ (at w₂ r₂ k₂) 1389 (numbers b₂) (rw (fits₂ 1389 0 (room-for .2)))
+
+pub written-again : isOld b₂ ≡ false → saveBytes r₂ s₂ ≡ b₂
+written-again = demand-2 .writes b₂ (save-fit r₂ s₂) (lentIn w₂) nothing t₂ taken-up

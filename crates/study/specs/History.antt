@@ -282,7 +282,8 @@ module _ (M : Machine) where
   abbrev pub Claim : Type 0
   Claim = (es : List Made) → RunA es → (bs : List Made) → RunB bs → calls bs ≡ calls (standing es) → Agreed es bs
 
-  -- The code always returns, and as its contracts say: every call that can be made has an honest outcome.
+  -- Every call that can be made has an honest outcome: the definition is never stuck, whatever is asked of whatever memory holds. (That the
+  -- code returns is no part of it: that is proved function by function, with each contract.)
   abbrev pub Returns : Type 0
   Returns = (c : Asked) (w : World) (x : Room) → Fits c w x
       → (y : Reply Answer) × (v : World) × (z : Room) × Honest (record { call = c; handed = w; lent = x; reply = y; left = v; back = z })

@@ -4,10 +4,10 @@ use Rattle.replay.proofs.main.Statement.{statement}
 use Rattle.replay.proofs.main.Tie as tie
 
 abbrev Inv-loop : tie.InvT-loop
-Inv-loop count at₀ numbers₀ apart₀ at numbers apart = at ≤ count
+Inv-loop count at₀ numbers₀ apart₀ seen₀ at numbers apart seen = at ≤ count
 
 abbrev μ-loop : tie.MeasureT-loop
-μ-loop count at₀ numbers₀ apart₀ at numbers apart = count - at
+μ-loop count at₀ numbers₀ apart₀ seen₀ at numbers apart seen = count - at
 
 pub main-spec : {M : Type 1} → statement M
 main-spec =
@@ -21,6 +21,7 @@ main-spec =
     (λ c κs. search needs)
     (λ c κs. search needs)
     (λ c. search needs)
+    (λ c κs. search needs)
     (λ c κs. search needs)
     (λ c κs. search needs)
     (λ c. search needs)

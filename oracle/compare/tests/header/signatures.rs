@@ -49,7 +49,9 @@ fn of_declaration(text: &str) -> (String, Vec<String>) {
 /// The functions of a source in Rust's or Rattle's form that have `lead` before the engine's names. A
 /// lifetime is nothing to C.
 pub fn of_source(text: &str, lead: &str) -> Signatures {
-    let text = without(text, "//", "\n").replace("<'a>", "").replace("&'a ", "&");
+    let text = without(text, "//", "\n")
+        .replace("<'a>", "")
+        .replace("&'a ", "&");
     let lead = format!("{lead}{NAMES}");
     text.split(&lead).skip(1).map(of_function).collect()
 }

@@ -4,4 +4,4 @@ use Rattle.replay.proofs.study.joined.Statement.{statement}
 use Rattle.replay.proofs.study.joined.Tie as tie
 
 pub joined-spec : {M : Type 1} → statement M
-joined-spec = tie.close (tie.spec (λ c κs. search needs) (λ c κs. search needs) (λ c. (refl, c .before .plus .ensures, c .plus2 .ensures)))
+joined-spec = tie.close (tie.spec (λ c κs. search needs) (λ c κs. search needs) (λ c κs. search needs) (λ c. (refl, c .before .before .plus .ensures, c .before .plus2 .ensures, c .plus3 .ensures)))

@@ -1,0 +1,2 @@
+-- What a program has of demand 3.
+pub mod Runs

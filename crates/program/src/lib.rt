@@ -1,0 +1,9 @@
+// A program that calls the C functions on one block and nine stores, as a C caller does: each of its functions leaves a run of demand 3 that holds what is in
+// its memory. Nothing is computed here; it is there so that every clause `honest` called here has someone who leans on it.
+pub mod beginning;
+pub mod branches;
+pub mod edges;
+pub mod library;
+pub mod region;
+pub mod stepping;
+pub mod taking;

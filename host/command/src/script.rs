@@ -135,7 +135,7 @@ impl Session<'_> {
         let grows = !self.told && courant > limit;
         self.told |= grows;
         let doubts = [
-            grows.then(|| format!("the Courant number is {courant:.3}: above {limit:.3} the field grows without end")),
+            grows.then(|| format!("the Courant number is {courant:.3}: above {limit:.3} the field can grow without end")),
             self.unbuilt.then(|| "a material's poles act after build only".into()),
             (has_source && !study.has_region()).then(|| "there is no wave's region: what the source gives goes nowhere".into()),
         ];

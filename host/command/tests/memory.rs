@@ -34,20 +34,22 @@ fn no_more_studies_are_run_at_a_time_than_fit() {
         .replace(", poles = [{ debye = { delta_eps = 2.0, tau = \"4 ps\" } }]", "")
         .replace("steps = 3000", "steps = 1");
     let folder = Folder::new(&(large + &more));
-    let limited = |limit: &str| {
-        let script = format!("ulimit -c 0; ulimit -v {limit}; exec \"$0\" curve head.toml --jobs 6");
+    let limited = |limit: &str, words: &str| {
+        let script = format!("ulimit -c 0; ulimit -v {limit}; exec \"$0\" curve head.toml {words}");
         let mut command = Command::new("sh");
         command.args(["-c", &script]).arg(cargo_bin("cichowiej")).current_dir(folder.path(""));
         let out = command.output().unwrap();
         (out.status.code(), String::from_utf8(out.stderr).unwrap())
     };
-    let (status, err) = limited("900000");
+    let (status, err) = limited("900000", "--jobs 6");
     assert_eq!(status, Some(0), "{err}");
     assert!(err.starts_with("6 studies of 193 MB each, 3 at a time: ") && err.contains(" MB are free\n"), "{err}");
     // one that has no room is not begun
-    for limit in ["250000", "150000", "100000"] {
-        let (status, err) = limited(limit);
-        assert!(status == Some(1) && err.starts_with("cichowiej: a study takes 193 MB, and "), "{limit}: {err}");
-        assert!(err.ends_with(" are free: take fewer cells, or another machine\n"), "{limit}: {err}");
+    for (limit, words) in
+        [("250000", "--jobs 6"), ("150000", "--point 1"), ("100000", "--plan list"), ("100000", "--gather"), ("100000", "--jobs 1")]
+    {
+        let (status, err) = limited(limit, words);
+        assert!(status == Some(1) && err.starts_with("cichowiej: a study takes 193 MB, and "), "{words}: {err}");
+        assert!(err.ends_with(" are free: take fewer cells, or another machine\n"), "{words}: {err}");
     }
 }

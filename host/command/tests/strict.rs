@@ -196,7 +196,7 @@ fn a_pole_that_grows_is_warned_of() {
     for new in poles {
         let folder = Folder::new(&HEAD.replace(old, new).replace("courant = 0.5", "courant = 0.99"));
         let (_, out, _) = folder.curve(&[]);
-        assert!(out.contains("the field grows without end in moisture 5 %") && out.contains("NaN"), "{new}: {out}");
+        assert!(out.contains("the field can grow without end in moisture 5 %") && out.contains("NaN"), "{new}: {out}");
         let (status, _, err) = folder.curve(&["--plan", "list", "--strict"]);
         assert!(status == 1 && err.contains("courant"), "{new}: {err}");
     }

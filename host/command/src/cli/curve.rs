@@ -98,8 +98,17 @@ impl Job<'_> {
         self.input.located(&trouble)
     }
 
+    /// What there is for studies. One that has no room is not begun: the system would end it.
+    fn room(&self) -> Result<Room, String> {
+        let (each, room) = (self.plan.grid.memory(), Room::here());
+        let free = in_bytes(room.least());
+        let short = || format!("a study takes {}, and {free} are free: take fewer cells, or another machine", in_bytes(each));
+        room.holds(each).then_some(room).ok_or_else(short)
+    }
+
     /// Where the layer works, every study having been opened once.
     fn checked(&self) -> Result<Option<Layer>, String> {
+        self.room()?;
         self.plan.check().map_err(|trouble| self.located(trouble))
     }
 
@@ -187,14 +196,11 @@ impl Job<'_> {
         judged
     }
 
-    /// Tells what so many studies take, and answers how many of those asked for are run at a time. One that has no room is not begun: the system would end it.
+    /// Tells what so many studies take, and answers how many of those asked for are run at a time.
     fn at_a_time(&self, all: usize, asked: usize) -> Result<usize, String> {
-        let (each, room) = (self.plan.grid.memory(), Room::here());
-        let (fit, free) = (room.fits(asked, each).max(1), in_bytes(room.least()));
-        if !room.holds(each) {
-            return Err(format!("a study takes {}, and {free} are free: take fewer cells, or another machine", in_bytes(each)));
-        }
-        let few = if fit < asked { format!(": {free} are free") } else { String::new() };
+        let room = self.room()?;
+        let fit = room.fits(asked, self.plan.grid.memory()).max(1);
+        let few = if fit < asked { format!(": {} are free", in_bytes(room.least())) } else { String::new() };
         let together = if all > 1 { format!(", {fit} at a time{few}") } else { String::new() };
         tell(&format!("{}{together}", self.studies(all)));
         Ok(fit)

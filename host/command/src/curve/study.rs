@@ -8,6 +8,9 @@ use rayon::prelude::*;
 use std::collections::BTreeMap;
 use std::sync::atomic::{AtomicBool, Ordering};
 
+/// What is in a head beside its materials, by name.
+pub const AIR: &str = "air";
+
 /// Fourier sums over the two planes, at each of the gauge's frequencies.
 #[derive(Debug, Clone, PartialEq)]
 pub struct Sums {
@@ -147,7 +150,7 @@ impl Plan<'_> {
             air * square.max(0.0).sqrt()
         };
         let limits = sheets.chain(others).map(|(name, material)| (limit(&material), name));
-        let first = (air.min(grid.line_limit()), "air".to_string());
+        let first = (air.min(grid.line_limit()), AIR.to_string());
         limits.fold(first, |least, next| if next.0 < least.0 { next } else { least })
     }
 

@@ -10,80 +10,52 @@ use crate::curve::study::Reading;
 use cichowiej::Layer;
 use std::fmt;
 
-/// What a warning is about, in the order in which they are told.
-#[derive(Debug, Clone, Copy, PartialEq, Eq, PartialOrd, Ord)]
-pub enum Kind {
-    NoLayer,
-    WeakLayer,
-    LowFrequency,
-    InLayer,
-    NoNumber,
-    Courant,
-    Steps,
-    Endless,
-    Gain,
-    Phase,
-    Faint,
-    Coarse,
-    Walls,
-    Moistures,
-    SlowPole,
-    FirstOrder,
-    WaveBox,
-    PartSheet,
-    Boxes,
+/// The kinds, each with the name by which a person allows it.
+macro_rules! kinds {
+    ($($kind:ident $name:literal,)*) => {
+        /// What a warning is about, in the order in which they are told.
+        #[derive(Debug, Clone, Copy, PartialEq, Eq, PartialOrd, Ord)]
+        pub enum Kind {
+            $($kind,)*
+        }
+
+        impl Kind {
+            pub const ALL: [Self; [$($name),*].len()] = [$(Self::$kind,)*];
+
+            pub fn name(self) -> &'static str {
+                match self {
+                    $(Self::$kind => $name,)*
+                }
+            }
+        }
+    };
+}
+
+kinds! {
+    NoLayer "no-layer",
+    WeakLayer "weak-layer",
+    LowFrequency "low-frequency",
+    InLayer "in-layer",
+    NoNumber "no-number",
+    Courant "courant",
+    Steps "steps",
+    Endless "endless",
+    Gain "gain",
+    Phase "phase",
+    Faint "faint",
+    Coarse "coarse",
+    Walls "walls",
+    Moistures "moistures",
+    SlowPole "slow-pole",
+    FirstOrder "first-order",
+    WaveBox "wave-box",
+    PartSheet "part-sheet",
+    Boxes "boxes",
 }
 
 use Kind::*;
 
 impl Kind {
-    pub const ALL: [Self; 19] = [
-        NoLayer,
-        WeakLayer,
-        LowFrequency,
-        InLayer,
-        NoNumber,
-        Courant,
-        Steps,
-        Endless,
-        Gain,
-        Phase,
-        Faint,
-        Coarse,
-        Walls,
-        Moistures,
-        SlowPole,
-        FirstOrder,
-        WaveBox,
-        PartSheet,
-        Boxes,
-    ];
-
-    /// By which a person allows it.
-    pub fn name(self) -> &'static str {
-        match self {
-            NoLayer => "no-layer",
-            WeakLayer => "weak-layer",
-            LowFrequency => "low-frequency",
-            InLayer => "in-layer",
-            NoNumber => "no-number",
-            Courant => "courant",
-            Steps => "steps",
-            Endless => "endless",
-            Gain => "gain",
-            Phase => "phase",
-            Faint => "faint",
-            Coarse => "coarse",
-            Walls => "walls",
-            Moistures => "moistures",
-            SlowPole => "slow-pole",
-            FirstOrder => "first-order",
-            WaveBox => "wave-box",
-            PartSheet => "part-sheet",
-            Boxes => "boxes",
-        }
-    }
-
     pub fn named(name: &str) -> Option<Self> {
         Self::ALL.into_iter().find(|kind| kind.name() == name)
     }

@@ -1,6 +1,7 @@
 //! The head itself: its cells, its walls, its sheet, its boxes.
 
 use crate::curve::plan::Plan;
+use crate::curve::study::AIR;
 use crate::head::{AxisName, Cells, Wave};
 use cichowiej::{Material, Pole};
 use std::f64::consts::PI;
@@ -26,7 +27,7 @@ pub fn coarse(plan: &Plan) -> Option<String> {
     };
     let sheets = plan.points.iter().filter_map(|point| Some((point.name(), cells(&point.sheet.as_ref()?.material))));
     let others = plan.materials().map(|(name, material)| (format!("material {name:?}"), cells(&material)));
-    let air = [("air".to_string(), cells(&Material::plain(1.0)))];
+    let air = [(AIR.to_string(), cells(&Material::plain(1.0)))];
     let (name, fewest) = sheets.chain(others).chain(air).min_by(|a, b| a.1.total_cmp(&b.1))?;
     let fine = fewest >= FINE;
     (!fine).then(|| {

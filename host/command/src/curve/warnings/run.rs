@@ -1,7 +1,7 @@
 //! The run: stable, long enough, with a source that has the gauge's frequencies.
 
 use crate::curve::plan::{Plan, Point};
-use crate::curve::study::Reading;
+use crate::curve::study::{AIR, Reading};
 use crate::curve::{Curve, Row, Value};
 use crate::output::table::in_hertz;
 use cichowiej::{PlaneSpectrum, Source, maths};
@@ -32,12 +32,13 @@ pub fn no_reading(reading: &Reading) -> Option<String> {
     (!finite).then(|| NO_NUMBER.into())
 }
 
-/// In air the field then grows for certain; in a thin sheet it may stay a little beyond its limit.
+/// In air the field then grows for certain; in a material it can, and a thin sheet of it may stay a little beyond its limit.
 pub fn unstable(plan: &Plan) -> Option<String> {
     let (courant, (limit, place)) = (plan.grid.courant_number(), plan.courant_limit());
     let stable = courant <= limit;
     (!stable).then(|| {
-        format!("the Courant number is {courant:.3}: above {limit:.3} the field grows without end in {place}; take a smaller dt or courant")
+        let grows = if place == AIR { "grows" } else { "can grow" };
+        format!("the Courant number is {courant:.3}: above {limit:.3} the field {grows} without end in {place}; take a smaller dt or courant")
     })
 }
 

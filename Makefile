@@ -28,10 +28,10 @@ curve:
 setup:
 	@host/setup
 
-# The proved library, made anew when a file of the crates has changed. What the prover says goes into a file; it is shown where something is not proved.
+# The proved library, made anew when a file of the crates has changed or is gone: `api` is proved once more for it. What the prover says goes into a file; it is shown where something is not proved.
 ENGINE := target/staticlib/libapi.a
 engine: $(ENGINE)
-$(ENGINE): $(shell find crates crates.txt RATTLE-KIT -type f)
+$(ENGINE): $(shell find crates crates.txt RATTLE-KIT)
 	@mkdir -p target && if ! rt staticlib api > target/engine.txt 2>&1; then tail -n 40 target/engine.txt; exit 1; fi
 	@touch $@
 
@@ -62,19 +62,16 @@ prove:
 
 # The proved library, linked into Rust and C, against the header, the processor's square root, the original Rust and a second reading of the save; and the
 # program that lists a save.
-compare:
-	rt staticlib api
+compare: engine
 	rt check listing
 	cd oracle && cargo test --release
 
 # The library and the command for people, on the proved library; and the layer's tables and the validation's slabs against the original.
-host:
-	rt staticlib api
+host: engine
 	host/cargo test --release --workspace
 
 # The random studies, damaged saves and histories alone, many more of them.
-compare-long:
-	rt staticlib api
+compare-long: engine
 	cd oracle && CICHOWIEJ_STUDIES=200000 CICHOWIEJ_DAMAGED=1000000 CICHOWIEJ_HISTORIES=20000 cargo test --release --test calls --test damaged --test histories
 
 # A curve's plan on a real Slurm, where one answers.
@@ -82,8 +79,7 @@ cluster-test: setup engine command
 	@host/cluster-test
 
 # Time for a step beside the original's, and for the largest save beside a plain copy; a curve's stepping beside a run's.
-bench: setup
-	rt staticlib api
+bench: setup engine
 	cd oracle && cargo run --release -p bench
 	host/cargo bench --quiet -p cichowiej-command --bench stepping
 

@@ -8,7 +8,7 @@ use native.Mathlib.Numerals.{add-one}
 use native.Mathlib.Omega.{arith}
 use borrow.Author.Tests.{eqb-true}
 use lib.Dec.{eqb}
-use Rattle.replay.specs.Apart.{unlike, apart, together}
+use Rattle.differ.specs.Apart.{unlike, apart, together}
 
 pub apart-more : (f g : ℕ → ℕ) (i : ℕ) {n m a b : ℕ} → n ≡ apart i f g → a ≡ f i → b ≡ g i → m ≡ unlike a b → n + m ≡ apart (i + 1) f g
 unfolding apart

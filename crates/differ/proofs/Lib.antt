@@ -1,2 +1,2 @@
--- Laws of replay.
+-- Laws of differ.
 pub mod Counting

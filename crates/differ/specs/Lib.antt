@@ -1,2 +1,2 @@
--- What the contracts of replay cite.
+-- What the contracts of differ cite.
 pub mod Apart

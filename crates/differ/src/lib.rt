@@ -1,8 +1,9 @@
-// At how many places two lists differ.
+// At how many places two lists differ, and what was seen of several together.
 ghost use mathlib.Core.Path.{_≡_};
+ghost use mathlib.Core.Bool.{_&&_};
 ghost use Prim.Native.Nat.{_≤_};
 ghost use lib.ListN.{length};
-ghost use Rattle.replay.specs.Apart.{unlike, apart, pattern, element, together};
+ghost use Rattle.differ.specs.Apart.{unlike, apart, pattern, element, together};
 use codec::floats::bits_of;
 
 // Two counts together; beyond what 64 bits hold it stays at the most.
@@ -118,5 +119,26 @@ pub fn bytes_compared(a: &[u8], b: &mut [u8]) -> Compared
     Compared {
         apart: count,
         seen: told_apart(count, changed),
+    }
+}
+
+// Answers that were read beside numbers: whether all were there, how many they were, at how many places they differ, and in how many comparisons a change that was
+// made on purpose was seen.
+pub struct Seen {
+    pub whole: bool,
+    pub numbers: u64,
+    pub apart: u64,
+    pub seen: u64,
+}
+
+// Of two lists of answers together.
+pub fn joined(a: Seen, b: Seen) -> Seen
+    ensures { λ r. ⌜ (r .whole ≡ (a .whole && b .whole)) × (r .numbers ≡ together (a .numbers) (b .numbers)) × (r .apart ≡ together (a .apart) (b .apart)) × (r .seen ≡ together (a .seen) (b .seen)) ⌝ }
+{
+    Seen {
+        whole: a.whole & b.whole,
+        numbers: plus(a.numbers, b.numbers),
+        apart: plus(a.apart, b.apart),
+        seen: plus(a.seen, b.seen),
     }
 }

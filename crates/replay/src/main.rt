@@ -8,7 +8,6 @@
 // Doubles are eight bytes, every NaN 7FF8000000000000; ids are four. The steps are run, and every number and every byte of the block
 // compared with the answers. Of the numbers of a line, those that are compared are counted; what is apart are numbers and bytes of the block.
 // In each of a study's seven comparisons the last answer is then changed, and the line counts those that saw it.
-mod differ;
 mod input;
 mod output;
 mod study;

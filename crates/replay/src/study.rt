@@ -4,14 +4,11 @@ ghost use mathlib.Core.Bool.{_&&_, cond};
 ghost use Prim.Native.Nat.{_≤_, min};
 ghost use lib.Dec.{eqb};
 ghost use lib.ListN.{length};
-ghost use Rattle.replay.specs.Apart.{apart, pattern, together};
-use super::differ::bytes_compared;
-use super::differ::floats_compared;
-use super::differ::plus;
 use super::input;
 use super::input::Counts;
 use super::input::LONGEST;
 use block::BLOCK_LENGTH;
+use differ::Seen;
 use grid::Record;
 use root::vacuum;
 
@@ -28,15 +25,6 @@ pub struct Outcome {
     pub seen: u64,
 }
 
-// Answers that were read beside numbers: whether all were there, how many they were, at how many places they differ, and in how many comparisons a change that was
-// made on purpose was seen.
-struct Seen {
-    whole: bool,
-    numbers: u64,
-    apart: u64,
-    seen: u64,
-}
-
 fn no_study() -> Outcome {
     Outcome {
         whole: false,
@@ -51,24 +39,13 @@ fn no_study() -> Outcome {
     }
 }
 
-fn joined(a: Seen, b: Seen) -> Seen
-    ensures { λ r. ⌜ (r .whole ≡ (a .whole && b .whole)) × (r .numbers ≡ together (a .numbers) (b .numbers)) × (r .apart ≡ together (a .apart) (b .apart)) × (r .seen ≡ together (a .seen) (b .seen)) ⌝ }
-{
-    Seen {
-        whole: a.whole & b.whole,
-        numbers: plus(a.numbers, b.numbers),
-        apart: plus(a.apart, b.apart),
-        seen: plus(a.seen, b.seen),
-    }
-}
-
 // Answers are read into b, and compared.
 fn see_into(xs: &[f64], b: &mut [f64]) -> Seen
     requires { ⌜ length (now xs) ≡ length (now b) ⌝ }
     ensures { λ r. ⌜ r .numbers ≡ length (now (xs .entry)) ⌝ }
 {
     let whole = input::read_floats(b);
-    let c = floats_compared(xs, b);
+    let c = differ::floats_compared(xs, b);
     Seen {
         whole,
         numbers: xs.len() as u64,
@@ -96,7 +73,7 @@ fn see_floats(xs: &[f64]) -> Seen {
 fn see_two(a: &[f64], b: &[f64]) -> Seen {
     let first = see_floats(a);
     let second = see_floats(b);
-    joined(first, second)
+    differ::joined(first, second)
 }
 
 // The block of a record beside the one that is answered.
@@ -105,7 +82,7 @@ fn see_block(r: Record) -> Seen {
     let mut b = [0u8; BLOCK_LENGTH];
     block::put_record(&mut a, r);
     let whole = input::read_bytes(&mut b);
-    let c = bytes_compared(&a, &mut b);
+    let c = differ::bytes_compared(&a, &mut b);
     Seen {
         whole,
         numbers: 0,
@@ -200,7 +177,10 @@ fn replayed(
     let fields = see_two(e, h);
     let layer = see_two(psi_e, psi_h);
     let rest = see_two(poles, aux);
-    let seen = joined(joined(fields, layer), joined(rest, see_block(q)));
+    let seen = differ::joined(
+        differ::joined(fields, layer),
+        differ::joined(rest, see_block(q)),
+    );
     told(whole, o.refusal, q, samples.len(), seen)
 }
 

@@ -3,10 +3,10 @@ use mathlib.Core.Path.{_≡_, refl, ap, _∙_}
 use Prim.Native.Nat.{ℕ, _-_, _≤_}
 use native.Mathlib.Omega.{arith}
 use lib.ListN.{length}
-use Rattle.replay.specs.Apart.{apart, pattern}
-use Rattle.replay.proofs.Counting.{apart-more}
-use Rattle.replay.proofs.differ.floats_apart.Statement.{statement}
-use Rattle.replay.proofs.differ.floats_apart.Tie as tie
+use Rattle.differ.specs.Apart.{apart, pattern}
+use Rattle.differ.proofs.Counting.{apart-more}
+use Rattle.differ.proofs.floats_apart.Statement.{statement}
+use Rattle.differ.proofs.floats_apart.Tie as tie
 
 abbrev Inv-loop : tie.InvT-loop
 Inv-loop a b n₀ i₀ n i = (i ≤ length a) × (n ≤ i) × (n ≡ apart i (pattern a) (pattern b))

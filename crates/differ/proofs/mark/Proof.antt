@@ -2,9 +2,9 @@ use mathlib.Core.Path.{sym, ap}
 use mathlib.Core.Bool.{Bool, cond}
 use native.Mathlib.Omega.{arith}
 use borrow.Author.Tests.{eq-eqb, ne-eqb}
-use Rattle.replay.specs.Apart.{unlike}
-use Rattle.replay.proofs.differ.mark.Statement.{statement}
-use Rattle.replay.proofs.differ.mark.Tie as tie
+use Rattle.differ.specs.Apart.{unlike}
+use Rattle.differ.proofs.mark.Statement.{statement}
+use Rattle.differ.proofs.mark.Tie as tie
 
 returns : tie.Need-returns
 unfolding unlike

@@ -18,7 +18,7 @@ use Rattle.fdtd.specs.Inner.Cell.{curlBy, firstBy, secondBy}
 use Rattle.fdtd.proofs.Singles.{lone-as, memories-go, memories-left, by-curl, own-memories}
 use Rattle.fdtd.proofs.Beside.{FairBy, cell-beside}
 use Rattle.electric.specs.declared.row.Change.{Change}
-use Rattle.electric.specs.declared.row.Weights.{Weights}
+use Rattle.update.specs.declared.Weights.{Weights}
 use Rattle.electric.specs.Inner.Row.{dpOf, fieldE, DpRoom}
 use Rattle.electric.specs.Inner.Swept.{madeOf, caAt, cbAt, downR, downS, downT}
 use Rattle.electric.specs.Inner.Celled.{fieldBy, ruleE, Moving}

@@ -22,24 +22,6 @@ pub struct Change {
     pub dt: f64,
 }
 
-// What E(n) and E(n+1) are multiplied by.
-pub struct Weights {
-    pub ca: f64,
-    pub cb: f64,
-}
-
-// eps/dt and sigma/2 are taken once for both.
-pub fn weights_of(eps0: f64, dt: f64, eps_r: f64, sigma: f64) -> Weights
-    ensures { λ r. ⌜ (r .ca ≡ ca eps0 dt «eps_r» sigma) × (r .cb ≡ cb eps0 dt «eps_r» sigma) ⌝ }
-{
-    let eps = eps0 * eps_r / dt;
-    let half = sigma / 2.0;
-    Weights {
-        ca: eps - half,
-        cb: eps + half,
-    }
-}
-
 // ca and cb of n cells, whose eps_r stand from m on and sigma from s on.
 pub fn factors(scr: &mut [f64], media: &[f64], m: usize, s: usize, n: usize, eps0: f64, dt: f64)
     requires { ⌜ (n ≤ 512) × (2048 + n ≤ length (now scr)) ⌝ }
@@ -48,7 +30,7 @@ pub fn factors(scr: &mut [f64], media: &[f64], m: usize, s: usize, n: usize, eps
 {
     let mut i = 0usize;
     while i < n {
-        let f = weights_of(eps0, dt, rows::at(media, m, i), rows::at(media, s, i));
+        let f = update::weights_of(eps0, dt, rows::at(media, m, i), rows::at(media, s, i));
         scr[1536 + i] = f.ca;
         scr[2048 + i] = f.cb;
         i += 1usize;
@@ -96,12 +78,6 @@ fn curls(scr: &mut [f64], h: &[f64], n: usize, a: usize, z: usize, b: Side, c: S
     }
 }
 
-pub fn value(ca: f64, e: f64, curl: f64, term: f64, cb: f64) -> f64
-    ensures { λ r. ⌜ r ≡ (ca ⊗ e ⊕ curl ⊖ term) ⊘ cb ⌝ }
-{
-    (ca * e + curl - term) / cb
-}
-
 // The new numbers of the cells from a up to z, which stand from q on: without dispersion, where dp is 0.0 everywhere,
 fn plain(e: &mut [f64], scr: &[f64], q: usize, a: usize, z: usize, term: f64)
     requires { ⌜ (a ≤ z) × (q + z ≤ length (now e)) × (2048 + z ≤ length (now scr)) ⌝ }
@@ -109,7 +85,7 @@ fn plain(e: &mut [f64], scr: &[f64], q: usize, a: usize, z: usize, term: f64)
 {
     let mut i = a;
     while i < z {
-        e[q + i] = value(
+        e[q + i] = update::electric_value(
             rows::at(scr, 1536, i),
             e[q + i],
             rows::at(scr, 1024, i),
@@ -136,7 +112,7 @@ fn dispersed(
 {
     let mut i = a;
     while i < z {
-        e[q + i] = value(
+        e[q + i] = update::electric_value(
             rows::at(scr, 1536, i),
             e[q + i],
             rows::at(scr, 1024, i),

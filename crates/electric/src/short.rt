@@ -10,9 +10,7 @@ ghost use Rattle.fdtd.specs.Inner.Turns.{Fit, Laid};
 ghost use Rattle.electric.specs.Inner.Row.{dpOf, DpRoom};
 ghost use Rattle.electric.specs.Inner.Celled.{ruleE, Moving};
 ghost use Rattle.electric.specs.Inner.Swept.{Swept, Carried};
-use crate::row;
 use crate::row::Change;
-use crate::row::Weights;
 use fdtd::Axis;
 use fdtd::Coef;
 use fdtd::rows;
@@ -20,6 +18,7 @@ use fdtd::single;
 use fdtd::single::Shared;
 use fdtd::turns;
 use fdtd::turns::Turn;
+use update::Weights;
 
 // dp/dt of the number at i. Without dispersion it is none, 0.0/dt, divided once for all cells.
 fn term_of(poles: &[f64], w: Change, none: f64, i: usize) -> f64
@@ -57,7 +56,7 @@ fn component(
     let q = g.r.at + cell;
     if moves {
         let curl = single::curl_along(mem, h, g, cell, ds, cell, dt, cell, ks, kt);
-        e[q] = row::value(f.ca, e[q], curl, term_of(poles, w, none, q), f.cb);
+        e[q] = update::electric_value(f.ca, e[q], curl, term_of(poles, w, none, q), f.cb);
     } else {
         e[q] = 0.0;
     }
@@ -100,7 +99,7 @@ fn cell(
     let dr = v.q + crate::previous_of(i, g.r.n);
     let gor = free_at(g.r, i);
     let kr = single::coef_of(tab, g.r, i);
-    let f = row::weights_of(eps0, g.dt, media[c], rows::at(media, 2 * g.count, c));
+    let f = update::weights_of(eps0, g.dt, media[c], rows::at(media, 2 * g.count, c));
     let go_r = single::both(v.gos, v.got);
     let go_s = single::both(v.got, gor);
     let go_t = single::both(gor, v.gos);

@@ -12,12 +12,6 @@ ghost use Rattle.magnetic.specs.Inner.Row.{slopeOf, fieldOf};
 use fdtd::rows;
 use fdtd::rows::Side;
 
-pub fn factor_of(dt: f64, mu0: f64, mu: f64) -> f64
-    ensures { λ r. ⌜ r ≡ factor dt mu0 mu ⌝ }
-{
-    dt / (mu0 * mu)
-}
-
 // The factors of n cells whose mu stand from m on.
 pub fn factors(scr: &mut [f64], media: &[f64], m: usize, n: usize, dt: f64, mu0: f64)
     requires { ⌜ 1536 + n ≤ length (now scr) ⌝ }
@@ -26,7 +20,7 @@ pub fn factors(scr: &mut [f64], media: &[f64], m: usize, n: usize, dt: f64, mu0:
 {
     let mut i = 0usize;
     while i < n {
-        scr[1536 + i] = factor_of(dt, mu0, rows::at(media, m, i));
+        scr[1536 + i] = update::factor_of(dt, mu0, rows::at(media, m, i));
         i += 1usize;
     }
 }
@@ -79,7 +73,7 @@ fn fields(h: &mut [f64], scr: &[f64], q: usize, m: usize)
 {
     let mut i = 0usize;
     while i < m {
-        h[q + i] = h[q + i] - rows::at(scr, 1536, i) * rows::at(scr, 1024, i);
+        h[q + i] = update::magnetic_value(h[q + i], rows::at(scr, 1536, i), rows::at(scr, 1024, i));
         i += 1usize;
     }
 }

@@ -6,7 +6,6 @@ ghost use Rattle.fdtd.specs.Inner.Begun.{Known, StoredBy, Near};
 ghost use Rattle.fdtd.specs.Inner.Turns.{Fit, Laid};
 ghost use Rattle.magnetic.specs.Inner.Celled.{ruleH, Moving};
 ghost use Rattle.magnetic.specs.Inner.Swept.{Swept, Carried};
-use crate::row;
 use fdtd::Coef;
 use fdtd::rows;
 use fdtd::single;
@@ -34,7 +33,7 @@ fn component(
     if moves {
         let q = g.r.at + cell;
         let curl = single::curl_along(mem, e, g, cell, cell, us, cell, ut, ks, kt);
-        h[q] = h[q] - f * curl;
+        h[q] = update::magnetic_value(h[q], f, curl);
     }
 }
 
@@ -64,7 +63,7 @@ fn cell(
     let ur = v.q + turns::next_of(i, g.r.n);
     let gor = turns::has_next(g.r, i);
     let kr = single::coef_of(tab, g.r, i);
-    let f = row::factor_of(g.dt, mu0, rows::at(media, g.count, c));
+    let f = update::factor_of(g.dt, mu0, rows::at(media, g.count, c));
     let go_r = single::both(v.gos, v.got);
     let go_s = single::both(v.got, gor);
     let go_t = single::both(gor, v.gos);

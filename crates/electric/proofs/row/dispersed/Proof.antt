@@ -21,7 +21,7 @@ abbrev μ-loop : tie.MeasureT-loop
 loop-again : tie.Need-loop-again Inv-loop μ-loop
 loop-again c =
     let l = c .before .before .before .before .before .before .before .loop in
-    (omega arith, omega arith, span-step _ _ _ _ _ _ _ (l .inv .2) (omega arith) (omega arith) (c .value .ensures ∙ rw (c .before .before .before .before .before .at .ensures, c .before .before .before .at2 .ensures, c .before .before .at3 .ensures, c .before .at4 .ensures, l .inv .2 .over _ (le-refl _))))
+    (omega arith, omega arith, span-step _ _ _ _ _ _ _ (l .inv .2) (omega arith) (omega arith) (c .electric-value .ensures ∙ rw (c .before .before .before .before .before .at .ensures, c .before .before .before .at2 .ensures, c .before .before .at3 .ensures, c .before .at4 .ensures, l .inv .2 .over _ (le-refl _))))
 
 pub dispersed-spec : {M : Type 1} → statement M
 dispersed-spec =

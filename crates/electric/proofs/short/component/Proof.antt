@@ -20,7 +20,7 @@ returns : tie.Need-returns
 returns c =
     let a = c .before .before .before .before .before .before .before .before .before .before .before .before .before .args in
     let curl = c .before .before .before .before .before .curl-along .ensures in
-    moved-on (a .g) (a .h .now) (a .mem .now) (a .cell) (a .ds) (a .dt) (a .moves) (a .ks) (a .kt) (a .w) (a .poles .now) (a .f .ca) (a .f .cb) (a .e .now) (c .before .before .before .before .before .before .before .if1 .taken) (curl .0) (c .before .term-of .ensures) (c .value .ensures) (lone-set _ _ (omega (arith, c .before .before .before .before .before .before .before .before .before .before .before .before .before .pre)) refl) (curl .1)
+    moved-on (a .g) (a .h .now) (a .mem .now) (a .cell) (a .ds) (a .dt) (a .moves) (a .ks) (a .kt) (a .w) (a .poles .now) (a .f .ca) (a .f .cb) (a .e .now) (c .before .before .before .before .before .before .before .if1 .taken) (curl .0) (c .before .term-of .ensures) (c .electric-value .ensures) (lone-set _ _ (omega (arith, c .before .before .before .before .before .before .before .before .before .before .before .before .before .pre)) refl) (curl .1)
 
 returns-2 : tie.Need-returns-2
 returns-2 c =

@@ -1,3 +1,4 @@
+use mathlib.Core.Path.{_∙_}
 use Prim.Native.Nat.{_+_, _-_, _≤_}
 use native.Mathlib.Nat.{le-refl}
 use native.Mathlib.Omega.{arith}
@@ -5,6 +6,7 @@ use lib.ListN.{getD}
 use lib.Ieee.{nan}
 use Rattle.root.specs.Rounded.{_⊖_, _⊗_}
 use Rattle.fdtd.specs.Inner.Span.{Span}
+use borrow.Author.Needs.{needs}
 use Rattle.fdtd.proofs.Spans.{span-start, span-step, span-end}
 use Rattle.magnetic.proofs.row.fields.Statement.{statement}
 use Rattle.magnetic.proofs.row.fields.Tie as tie
@@ -17,7 +19,7 @@ abbrev μ-loop : tie.MeasureT-loop
 
 loop-again : tie.Need-loop-again Inv-loop μ-loop
 loop-again c =
-    let l = c .before .before .before .before .loop in (omega arith, span-step _ _ _ _ _ _ _ (l .inv .1) (omega arith) (omega arith) (rw (c .before .at .ensures, c .at2 .ensures, l .inv .1 .over _ (le-refl _))))
+    let l = c .before .before .before .before .before .loop in (omega arith, span-step _ _ _ _ _ _ _ (l .inv .1) (omega arith) (omega arith) (c .magnetic-value .ensures ∙ rw (c .before .before .at .ensures, c .before .at2 .ensures, l .inv .1 .over _ (le-refl _))))
 
 returns : tie.Need-returns Inv-loop μ-loop
 returns c = span-end _ _ _ _ (c .before .loop .inv .1) (omega arith)
@@ -34,6 +36,7 @@ fields-spec =
     (λ c. omega arith)
     (λ c κs. omega arith)
     (λ c κs. omega arith)
+    (λ c κs. search needs)
     (λ c. omega arith)
     (λ c. omega arith)
     (λ c. omega arith)

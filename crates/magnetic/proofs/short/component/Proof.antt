@@ -1,4 +1,3 @@
-use mathlib.Core.Path.{refl}
 use native.Mathlib.Omega.{arith}
 use borrow.Author.Needs.{needs}
 use Rattle.fdtd.proofs.Singles.{lone-set}
@@ -13,9 +12,9 @@ curl-along-requires c κs =
 
 returns : tie.Need-returns
 returns c =
-    let a = c .before .before .before .before .before .before .before .before .before .before .args in
-    let curl = c .before .before .before .curl-along .ensures in
-    moved-on (a .g) (a .e .now) (a .mem .now) (a .cell) (a .us) (a .ut) (a .moves) (a .ks) (a .kt) (a .f) (a .h .now) (c .before .before .before .before .before .before .if1 .taken) (curl .0) (lone-set _ _ (omega (arith, c .before .before .before .before .before .before .before .before .before .before .pre)) refl) (curl .1)
+    let a = c .before .before .before .before .before .before .before .before .before .before .before .args in
+    let curl = c .before .before .before .before .curl-along .ensures in
+    moved-on (a .g) (a .e .now) (a .mem .now) (a .cell) (a .us) (a .ut) (a .moves) (a .ks) (a .kt) (a .f) (a .h .now) (c .before .before .before .before .before .before .before .if1 .taken) (curl .0) (lone-set _ _ (omega (arith, c .before .before .before .before .before .before .before .before .before .before .before .pre)) (c .magnetic-value .ensures)) (curl .1)
 
 returns-2 : tie.Need-returns-2
 returns-2 c =
@@ -30,9 +29,10 @@ component-spec =
     curl-along-requires
     (λ c. search needs)
     (λ c. search needs)
+    (λ c κs. search needs)
     (λ c. search needs)
     (λ c. search needs)
     (λ c. search needs)
-    (λ c. c .before .before .before .curl-along .kept .0)
+    (λ c. c .before .before .before .before .curl-along .kept .0)
     returns
     returns-2)

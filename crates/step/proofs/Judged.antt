@@ -18,8 +18,8 @@ use Rattle.grid.specs.Stores.{Stores, lengthsOf, storeLengths, cells, faultWith
 use Rattle.grid.proofs.Tests.{and-left, and-right, first-none, or-none}
 use Rattle.grid.proofs.Settled.{with-none}
 use Rattle.ade.proofs.Advancing.{fit-of}
-use Rattle.tfsf.specs.Inner.Faces.{Corners}
-use Rattle.tfsf.proofs.Faced.{corners-of}
+use Rattle.corrections.specs.Inner.Faces.{Corners}
+use Rattle.corrections.proofs.Faced.{corners-of}
 use Rattle.step.specs.Step.{lastStep, freshIds, stepFault}
 use Rattle.step.specs.Inner.Ready.{StepReady}
 

@@ -15,7 +15,6 @@ use grid::Record;
 use grid::fault;
 use grid::stores;
 use grid::stores::Lengths;
-use tfsf::corrections;
 use tfsf::line;
 
 pub const STALE_MATERIAL: u32 = 8;

@@ -10,7 +10,7 @@ use Rattle.grid.specs.declared.Record.{Record}
 use Rattle.grid.specs.Fault.{isAbsent, polesFit}
 use Rattle.grid.specs.Inner.Sound.{Sound}
 use Rattle.grid.specs.Stores.{Stores, cells, lineLength}
-use Rattle.tfsf.specs.Inner.Faces.{Corners}
+use Rattle.corrections.specs.Inner.Faces.{Corners}
 
 -- for the wave's part of a half step
 pub record Wavy (r : Record) (media aux f : List Float) : Type 0 where

@@ -2,9 +2,9 @@ use mathlib.Core.Path.{ap, _∙_}
 use mathlib.Core.List.{List}
 use lib.Ieee.{Float}
 use borrow.Author.Needs.{needs}
-use Rattle.step.specs.Step.{correctedH, lineMid}
-use Rattle.step.proofs.magnetic_half.Statement.{statement}
-use Rattle.step.proofs.magnetic_half.Tie as tie
+use Rattle.halves.specs.Parts.{correctedH, lineMid}
+use Rattle.halves.proofs.magnetic_half.Statement.{statement}
+use Rattle.halves.proofs.magnetic_half.Tie as tie
 
 wave-h-requires : tie.Need-wave-h-requires
 wave-h-requires c κs =

@@ -1,8 +1,8 @@
 use borrow.Author.Needs.{needs}
 use Rattle.grid.proofs.Tests.{or-stays, or-goes}
-use Rattle.step.specs.Step.{stepFault}
-use Rattle.step.proofs.step_fault.Statement.{statement}
-use Rattle.step.proofs.step_fault.Tie as tie
+use Rattle.due.specs.Due.{stepFault}
+use Rattle.due.proofs.step_fault.Statement.{statement}
+use Rattle.due.proofs.step_fault.Tie as tie
 
 returns : tie.Need-returns
 unfolding stepFault

@@ -1,8 +1,8 @@
 use borrow.Author.Needs.{needs}
 use borrow.Author.Tests.{ne-eqb}
-use Rattle.step.proofs.Parts.{moves, rests}
-use Rattle.step.proofs.polarize.Statement.{statement}
-use Rattle.step.proofs.polarize.Tie as tie
+use Rattle.halves.proofs.Parts.{moves, rests}
+use Rattle.halves.proofs.polarize.Statement.{statement}
+use Rattle.halves.proofs.polarize.Tie as tie
 
 advance-requires : tie.Need-advance-requires
 advance-requires c κs =

@@ -1,4 +1,4 @@
--- The parts that a study may lack, there or not, and what they come to together. Assumes nothing.
+-- The parts that a study may lack, there or not. Assumes nothing.
 use Prim.Native.Nat.{ℕ}
 use mathlib.Core.Path.{_≡_, ap, _∙_}
 use mathlib.Core.Bool.{Bool, true, false, cond}
@@ -8,12 +8,11 @@ use lib.Ieee.{Float}
 use borrow.Author.Tests.{ne-eqb}
 use Rattle.grid.specs.declared.Record.{Record}
 use Rattle.grid.specs.Fault.{isAbsent}
-use Rattle.grid.specs.Stores.{stores, lineLength}
-use Rattle.ade.specs.Polarization.{polesAfter, deltaP}
-use Rattle.fdtd.specs.Halves.{halfH, psiAfter, magneticAfter, halfE, electricAfter}
+use Rattle.grid.specs.Stores.{lineLength}
+use Rattle.ade.specs.Polarization.{polesAfter}
 use Rattle.tfsf.specs.Line.{lineH, lineE}
 use Rattle.tfsf.specs.Corrections.{correctH, correctE}
-use Rattle.step.specs.Step.{lineMid, correctedH, correctedE, lineEnd, polesStepped, stepped}
+use Rattle.halves.specs.Parts.{lineMid, correctedH, correctedE, lineEnd, polesStepped}
 
 -- where there is a region, and where there is none
 there : {A : Type 0} (absent : Bool) (x y z : A) → absent ≡ false → z ≡ x → z ≡ cond absent y x
@@ -53,13 +52,3 @@ module _ (eps0 : Float) (r : Record) (ids : List ℕ) (e poles : List Float) whe
   pub rests : r .«built_count» ≡ 0 → poles ≡ polesStepped eps0 r ids e poles
   unfolding polesStepped
   rests h = rw h
-
--- the whole step from its two halves
-module _ (eps0 mu0 c0 : Float) (r : Record) (sample : Float) (e h media psiE psiH tables poles aux : List Float) (ids : List ℕ) {a1 h1 q1 p1 e1 m1 a2 : List Float} where
-  pub stepped-is : a1 ≡ lineMid mu0 r aux → h1 ≡ correctedH mu0 r media (lineMid mu0 r aux) (magneticAfter mu0 r e media tables psiH h)
-      → q1 ≡ psiAfter halfH r e tables psiH → p1 ≡ polesStepped eps0 r ids e poles
-      → e1 ≡ correctedE eps0 r media a1 (electricAfter eps0 r h1 media tables (deltaP r (polesStepped eps0 r ids e poles)) psiE e)
-      → m1 ≡ psiAfter halfE r h1 tables psiE → a2 ≡ lineEnd eps0 c0 r sample a1
-      → stores e1 h1 media m1 q1 tables p1 a2 ids ≡ stepped eps0 mu0 c0 r sample (stores e h media psiE psiH tables poles aux ids)
-  unfolding stepped
-  stepped-is ea eh eq ep ee em el = rw (el, em, ee, ep, eq, eh, ea)

@@ -1,8 +1,8 @@
 use borrow.Author.Needs.{needs}
 use Rattle.grid.proofs.Tests.{unless, met}
-use Rattle.step.proofs.Parts.{waves-h, still-h}
-use Rattle.step.proofs.wave_h.Statement.{statement}
-use Rattle.step.proofs.wave_h.Tie as tie
+use Rattle.halves.proofs.Parts.{waves-h, still-h}
+use Rattle.halves.proofs.wave_h.Statement.{statement}
+use Rattle.halves.proofs.wave_h.Tie as tie
 
 correct-h-requires : tie.Need-correct-h-requires
 correct-h-requires c κs =

@@ -1,10 +1,10 @@
 use mathlib.Core.Path.{ap}
 use Prim.Native.Nat.{ℕ, _-_, _≤_}
 use borrow.Author.Needs.{needs}
-use Rattle.step.specs.Step.{lastStep}
-use Rattle.step.proofs.Judged.{left-is}
-use Rattle.step.proofs.has_left.Statement.{statement}
-use Rattle.step.proofs.has_left.Tie as tie
+use Rattle.due.specs.Due.{lastStep}
+use Rattle.due.proofs.Judged.{left-is}
+use Rattle.due.proofs.has_left.Statement.{statement}
+use Rattle.due.proofs.has_left.Tie as tie
 
 returns : tie.Need-returns
 returns c =

@@ -1,8 +1,8 @@
 use borrow.Author.Needs.{needs}
 use Rattle.grid.proofs.Tests.{unless, met}
-use Rattle.step.proofs.Parts.{waves-e, still-e}
-use Rattle.step.proofs.wave_e.Statement.{statement}
-use Rattle.step.proofs.wave_e.Tie as tie
+use Rattle.halves.proofs.Parts.{waves-e, still-e}
+use Rattle.halves.proofs.wave_e.Statement.{statement}
+use Rattle.halves.proofs.wave_e.Tie as tie
 
 correct-e-requires : tie.Need-correct-e-requires
 correct-e-requires c κs =

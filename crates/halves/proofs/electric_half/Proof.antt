@@ -4,9 +4,9 @@ use lib.Ieee.{Float}
 use borrow.Author.Needs.{needs}
 use Rattle.ade.specs.Polarization.{deltaP}
 use Rattle.fdtd.specs.Halves.{electricAfter}
-use Rattle.step.specs.Step.{correctedE}
-use Rattle.step.proofs.electric_half.Statement.{statement}
-use Rattle.step.proofs.electric_half.Tie as tie
+use Rattle.halves.specs.Parts.{correctedE}
+use Rattle.halves.proofs.electric_half.Statement.{statement}
+use Rattle.halves.proofs.electric_half.Tie as tie
 
 wave-e-requires : tie.Need-wave-e-requires
 wave-e-requires c κs =

@@ -5,9 +5,9 @@ use lib.ListN.{length, take}
 use native.Mathlib.Omega.{arith}
 use borrow.Author.Needs.{needs}
 use Rattle.codec.specs.Lists.{every}
-use Rattle.step.proofs.Judged.{every-none, every-more, every-all}
-use Rattle.step.proofs.all_below.Statement.{statement}
-use Rattle.step.proofs.all_below.Tie as tie
+use Rattle.due.proofs.Judged.{every-none, every-more, every-all}
+use Rattle.due.proofs.all_below.Statement.{statement}
+use Rattle.due.proofs.all_below.Tie as tie
 
 abbrev Inv-loop : tie.InvT-loop
 Inv-loop ids b below₀ i₀ below i = (i ≤ length (ids)) × (below ≡ every (λ id. ltb id b) (take i (ids)))

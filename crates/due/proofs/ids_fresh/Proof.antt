@@ -1,7 +1,7 @@
 use borrow.Author.Needs.{needs}
-use Rattle.step.proofs.Judged.{off, on}
-use Rattle.step.proofs.ids_fresh.Statement.{statement}
-use Rattle.step.proofs.ids_fresh.Tie as tie
+use Rattle.due.proofs.Judged.{off, on}
+use Rattle.due.proofs.ids_fresh.Statement.{statement}
+use Rattle.due.proofs.ids_fresh.Tie as tie
 
 returns : tie.Need-returns
 returns c = off _ (c .if1 .taken)

@@ -89,7 +89,7 @@ pub fn run(
         aux: aux.len(),
         ids: ids.len(),
     };
-    let f = step::step_fault(r, l, ids, samples.len());
+    let f = due::step_fault(r, l, ids, samples.len());
     if f != 0 {
         let clock = r.clock;
         return Moved { refusal: f, clock };

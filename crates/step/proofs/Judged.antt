@@ -1,14 +1,12 @@
--- The ids tested one after another, and what a study without fault gives. Assumes nothing.
-use Prim.Native.Nat.{ℕ, zero, suc, _+_, _-_, _≤_, _<_}
-use native.Mathlib.Numerals.{add-one}
+-- What a study without fault gives. Assumes nothing.
+use Prim.Native.Nat.{ℕ, zero, suc, _+_, _≤_, _<_}
 use native.Mathlib.Omega.{arith}
-use mathlib.Core.Path.{_≡_, refl, sym, ap, _∙_}
+use mathlib.Core.Path.{_≡_, ap}
 use mathlib.Core.Bool.{Bool, true, false, _&&_, _||_}
 use mathlib.Core.List.{List, [], _∷_}
 use lib.Dec.{eqb, ltb, leb}
-use lib.ListN.{length, getD, take}
-use lib.Seq.{take-all}
-use borrow.Author.Tests.{ltb-true, leb-true, leb-false, le-leb, lt-leb, ne-eqb}
+use lib.ListN.{length, getD}
+use borrow.Author.Tests.{ltb-true, leb-true}
 use Rattle.codec.specs.Lists.{every}
 use Rattle.grid.specs.declared.Record.{Record}
 use Rattle.grid.specs.declared.stores.Lengths.{Lengths}
@@ -18,54 +16,18 @@ use Rattle.grid.specs.Stores.{Stores, lengthsOf, storeLengths, cells, faultWith
 use Rattle.grid.proofs.Tests.{and-left, and-right, first-none, or-none}
 use Rattle.grid.proofs.Settled.{with-none}
 use Rattle.ade.proofs.Advancing.{fit-of}
-use Rattle.tfsf.specs.Inner.Faces.{Corners}
-use Rattle.tfsf.proofs.Faced.{corners-of}
+use Rattle.corrections.specs.Inner.Faces.{Corners}
+use Rattle.corrections.proofs.Faced.{corners-of}
 use Rattle.step.specs.Step.{lastStep, freshIds, stepFault}
 use Rattle.step.specs.Inner.Ready.{StepReady}
 
--- ---- a test of every element, one more each time
-and-true : (a : Bool) → (a && true) ≡ a
-and-true true = refl
-and-true false = refl
-
-and-assoc : (a b c : Bool) → (a && (b && c)) ≡ (a && b && c)
-and-assoc true b c = refl
-and-assoc false b c = refl
-
 module _ (p : ℕ → Bool) where
-  next : (l : List ℕ) (i : ℕ) → i < length l → every p (take (suc i) l) ≡ (every p (take i l) && p (getD l i 0))
-  unfolding every
-  next [] i h = absurd (omega arith)
-  next (x ∷ l) zero h = and-true (p x)
-  next (x ∷ l) (suc i) h = ap (λ (b : Bool). p x && b) (next l i (omega arith)) ∙ and-assoc (p x) (every p (take i l)) (p (getD l i 0))
-
-  pub every-none : (l : List ℕ) → true ≡ every p (take 0 l)
-  unfolding every
-  every-none l = refl
-
-  pub every-more : {b b' : Bool} {x : ℕ} (l : List ℕ) (i : ℕ) → i < length l → b ≡ every p (take i l) → x ≡ getD l i 0 → b' ≡ (b && p x) → b' ≡ every p (take (i + 1) l)
-  every-more {b} {b'} {x} l i h e ex eb =
-      rw add-one (eb ∙ ap (λ (a : Bool). a && p x) e ∙ ap (λ (y : ℕ). every p (take i l) && p y) ex ∙ sym (next l i h))
-
-  pub every-all : {b : Bool} (l : List ℕ) (i : ℕ) → length l ≤ i → b ≡ every p (take i l) → b ≡ every p l
-  every-all l i h e = e ∙ ap (λ (q : List ℕ). every p q) (take-all i l h)
-
   every-at : (l : List ℕ) (i : ℕ) → every p l ≡ true → i < length l → p (getD l i 0) ≡ true
   unfolding every
   every-at [] i e h = absurd (omega arith)
   every-at (x ∷ l) zero e h = and-left (p x) (every p l) e
   every-at (x ∷ l) (suc i) e h = every-at l i (and-right (p x) (every p l) e) (omega arith)
 
--- ---- the ids
-pub off : {built : ℕ} (ids : List ℕ) → built ≡ 0 → true ≡ freshIds built ids
-unfolding freshIds
-off ids e = rw e
-
-pub on : {built : ℕ} {b : Bool} (ids : List ℕ) → (built ≡ 0 → ⊥) → b ≡ every (λ id. ltb id built) ids → b ≡ freshIds built ids
-unfolding freshIds
-on {built} ids h e = rw (ne-eqb built 0 h) e
-
--- ---- a study without fault
 fits-of : (r : Record) → faultOf r ≡ 0 → studyFits r ≡ true
 unfolding faultOf
 fits-of r e =
@@ -102,13 +64,6 @@ known-of r ids e f l h m b =
     let low = ltb-true (getD ids m 0) (r .«built_count») (every-at (λ id. ltb id (r .«built_count»)) ids m all (omega arith)) in
     let few = built-of r e in
     omega arith
-
-pub left-is : (steps n m : ℕ) → steps ≤ lastStep → m ≡ lastStep - steps → leb n m ≡ leb (steps + n) lastStep
-left-is steps n m h e = go (leb n m) refl
-  where
-    go : (b : Bool) → leb n m ≡ b → leb n m ≡ leb (steps + n) lastStep
-    go true q = let low = leb-true n m q in q ∙ sym (le-leb (steps + n) lastStep (omega arith))
-    go false q = let high = leb-false n m q in q ∙ sym (lt-leb (steps + n) lastStep (omega arith))
 
 pub ready : (r : Record) (s : Stores) (n : ℕ) → stepFault r (lengthsOf s) (s .ids) n ≡ 0 → StepReady r s × (r .clock .steps + n ≤ lastStep)
 unfolding stepFault storeLengths faultLent

@@ -1,3 +1,3 @@
 -- Laws that the functions' proofs cite.
 pub mod Judged
-pub mod Parts
+pub mod Whole

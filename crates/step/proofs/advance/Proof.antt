@@ -1,5 +1,5 @@
 use borrow.Author.Needs.{needs}
-use Rattle.step.proofs.Parts.{stepped-is}
+use Rattle.step.proofs.Whole.{stepped-is}
 use Rattle.step.proofs.advance.Statement.{statement}
 use Rattle.step.proofs.advance.Tie as tie
 

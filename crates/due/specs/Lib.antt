@@ -1,0 +1,2 @@
+-- What the contracts of due cite.
+pub mod Due

@@ -1,0 +1,3 @@
+-- What the contracts of halves cite.
+pub mod Parts
+pub mod Inner

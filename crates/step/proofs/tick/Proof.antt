@@ -1,7 +1,0 @@
-use mathlib.Core.Path.{refl}
-use borrow.Author.Needs.{needs}
-use Rattle.step.proofs.tick.Statement.{statement}
-use Rattle.step.proofs.tick.Tie as tie
-
-pub tick-spec : {M : Type 1} → statement M
-tick-spec = tie.close (tie.spec (λ c. search needs) (λ c. refl))

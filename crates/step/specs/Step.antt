@@ -2,7 +2,6 @@
 -- Without a region the line and the sample go unused. The two half steps are in fdtd/specs/Halves.antt, the parts that a study may lack (`lineMid`, `correctedH`,
 -- `polesStepped`, `correctedE`, `lineEnd`) in halves/specs/Parts.antt, the refusals and the clock after a step (`stepFault`, `ticked`) in due/specs/Due.antt; both files' names
 -- are passed on here. Definitions only.
-use mathlib.Core.List.{List}
 use lib.Ieee.{Float}
 use Rattle.grid.specs.declared.Record.{Record}
 use Rattle.grid.specs.Stores.{Stores, stores, lengthsOf, Outcome, settle}

@@ -2,7 +2,6 @@
 pub mod arithmetic;
 pub mod library;
 pub mod memory;
-pub mod on_block;
 pub mod readings;
 pub mod saving;
 pub mod steps;

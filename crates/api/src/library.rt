@@ -6,7 +6,6 @@ ghost use lib.ListN.{length};
 ghost use Rattle.study.specs.History.{doing};
 ghost use Rattle.study.specs.World.{setMaterial, assignBox, assignHalfspace, addMaterial, buildDispersion};
 ghost use Rattle.study.specs.Calls.{Silently, Numbering, putMedia, putPlaced, putPoles, placedOf};
-use crate::on_block;
 
 #[no_mangle]
 pub extern "C" fn cichowiej_set_material(

@@ -8,7 +8,6 @@ ghost use lib.ListN.{length};
 ghost use Rattle.study.specs.History.{doing};
 ghost use Rattle.study.specs.World.{totalEnergy, planeReading};
 ghost use Rattle.study.specs.Calls.{Reading};
-use crate::on_block;
 
 #[no_mangle]
 pub extern "C" fn cichowiej_total_energy(
@@ -21,7 +20,7 @@ pub extern "C" fn cichowiej_total_energy(
     ensures { λ n. ⌜ readout n (now (energy .exit)) ≡ readBlock (λ r. answering (energyCall (epsOf r) (muOf r) r (now (e .entry)) (now (h .entry)) (now (media .entry))) (now (energy .entry))) (now (b .entry)) (answered zeroF (now (energy .entry))) ⌝ }
     ensures honest { λ n. ⌜ Reading (now (b .entry)) (now (b .entry)) (λ s. (s .electric ≡ now (e .entry)) × (s .magnetic ≡ now (h .entry)) × (s .media ≡ now (media .entry))) (doing (totalEnergy (length (now (energy .entry))))) n (now (energy .entry)) (now (energy .exit)) ⌝ }
 {
-    on_block::readings::total_energy(b, e, h, media, energy)
+    read_block::total_energy(b, e, h, media, energy)
 }
 
 #[no_mangle]
@@ -35,5 +34,5 @@ pub extern "C" fn cichowiej_plane_reading(
     ensures { λ n. ⌜ readout n (now (reading .exit)) ≡ readBlock (λ r. answering (planeCall r k (now (e .entry)) (now (h .entry))) (now (reading .entry))) (now (b .entry)) (answered zeroF (now (reading .entry))) ⌝ }
     ensures honest { λ n. ⌜ Reading (now (b .entry)) (now (b .entry)) (λ s. (s .electric ≡ now (e .entry)) × (s .magnetic ≡ now (h .entry))) (doing (planeReading k (length (now (reading .entry))))) n (now (reading .entry)) (now (reading .exit)) ⌝ }
 {
-    on_block::readings::plane_reading(b, k, e, h, reading)
+    read_block::plane_reading(b, k, e, h, reading)
 }

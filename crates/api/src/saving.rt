@@ -11,7 +11,6 @@ ghost use Rattle.block.specs.Block.{blockRecord};
 ghost use Rattle.study.specs.History.{doing, saving, rewinding};
 ghost use Rattle.study.specs.World.{askLength, numbers};
 ghost use Rattle.study.specs.Calls.{Silently, Numbering, MadeOn, replyOf};
-use crate::on_block;
 
 #[no_mangle]
 pub extern "C" fn cichowiej_save_length(b: &[u8], length: &mut [usize]) -> u32

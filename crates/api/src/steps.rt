@@ -8,7 +8,6 @@ ghost use Rattle.calls.specs.Blocks.{sent, clockOnBlock};
 ghost use Rattle.study.specs.History.{doing};
 ghost use Rattle.study.specs.World.{step, run};
 ghost use Rattle.study.specs.Calls.{Silently};
-use crate::on_block;
 
 #[no_mangle]
 pub extern "C" fn cichowiej_step(

@@ -8,7 +8,6 @@ ghost use Rattle.grid.specs.Stores.{lengthsOf};
 ghost use Rattle.study.specs.History.{doing, opening};
 ghost use Rattle.study.specs.World.{resetFields};
 ghost use Rattle.study.specs.Calls.{Silently, putReset, resetOf};
-use crate::on_block;
 
 #[no_mangle]
 pub extern "C" fn cichowiej_open(

@@ -10,7 +10,6 @@ ghost use lib.ListN.{length};
 ghost use Rattle.study.specs.History.{doing};
 ghost use Rattle.study.specs.World.{setPeriodic, wallsPeriodic, wallsConductor, wallsLossy, wallsCpml};
 ghost use Rattle.study.specs.Calls.{Silently, Numbering, putLayer, putLossed, layerOf, lossedOf};
-use crate::on_block;
 
 #[no_mangle]
 pub extern "C" fn cichowiej_set_periodic(b: &mut [u8], x: bool, y: bool, z: bool) -> u32

@@ -6,7 +6,6 @@ ghost use Rattle.calls.specs.Blocks.{sent, onBlock};
 ghost use Rattle.study.specs.History.{doing};
 ghost use Rattle.study.specs.World.{slab, injector, boxRegion};
 ghost use Rattle.study.specs.Calls.{Silently, putAux};
-use crate::on_block;
 
 #[no_mangle]
 pub extern "C" fn cichowiej_slab_z(b: &mut [u8], k0: usize, k1: usize, aux: &mut [f64]) -> u32

@@ -1,7 +1,6 @@
 // Saves that are taken up again.
 ghost use Rattle.grid.specs.Stores.{stores};
-ghost use Rattle.program.specs.Runs.{StepAndBack, OverAndBack};
-use crate::stepping;
+ghost use Rattle.runs.specs.Runs.{StepAndBack, OverAndBack};
 use crate::taking;
 
 // A step, and back to a save.

@@ -4,7 +4,7 @@ ghost use lib.ListN.{length, take};
 ghost use Rattle.grid.specs.Stores.{stores, lengthsOf};
 ghost use Rattle.block.specs.Block.{blockRecord};
 ghost use Rattle.format.specs.Save.{saveLength};
-ghost use Rattle.program.specs.Runs.{Saves, Rewinds};
+ghost use Rattle.runs.specs.Runs.{Saves, Rewinds};
 use api::memory;
 use api::saving;
 

@@ -1,5 +1,5 @@
-//! Every C function on a study promises that the call it makes is one of demand 3: its contract has the clause `honest`. The crate `program` leans on the clause of
-//! those that it calls; of the others this alone tells that it is there.
+//! Every C function on a study promises that the call it makes is one of demand 3: its contract has the clause `honest`. The crates `preparing`, `stepping` and `program`
+//! lean on the clause of those that they call; of the others this alone tells that it is there.
 
 use std::fs;
 use std::path::{Path, PathBuf};
@@ -79,10 +79,13 @@ fn every_function_on_a_study_has_the_clause() {
     }
 }
 
-/// Those that `program` calls, by whose clauses its functions are proved: one of each kind of call, and more.
+/// Those that a program's crates call, by whose clauses its functions are proved: one of each kind of call, and more.
 #[test]
 fn the_program_calls_one_of_each_kind() {
-    let program = sources("program").concat();
+    let program: String = ["preparing", "stepping", "program"]
+        .iter()
+        .flat_map(|name| sources(name))
+        .collect();
     let called: Vec<String> = exported()
         .into_iter()
         .map(|(name, _)| name)

@@ -29,7 +29,7 @@ const STORES: &str = "crates/codec/src/stores.rt";
 const WORDS: &str = "crates/codec/src/words.rt";
 const GRID: &str = "crates/grid/src/lib.rt";
 const HEADS: &str = "crates/heads/src/lib.rt";
-const ON_BLOCK: &str = "crates/api/src/on_block/saving.rt";
+const ON_BLOCK: &str = "crates/on_block/src/saving.rt";
 const PUTS: &str = "crates/saves/src/puts.rt";
 
 /// What `put_f64` does.

@@ -18,7 +18,6 @@ const SAVE: [&str; 3] = ["api", "saving", "cichowiej_save"];
 
 /// The files that the writer's functions stand in, below crates/.
 const WRITER: [&str; 16] = [
-    "api/src/on_block/saving.rt",
     "api/src/saving.rt",
     "block/src/lib.rt",
     "codec/src/floats.rt",
@@ -32,6 +31,7 @@ const WRITER: [&str; 16] = [
     "heads/src/entries.rt",
     "heads/src/lib.rt",
     "heads/src/payloads.rt",
+    "on_block/src/saving.rt",
     "saves/src/lib.rt",
     "saves/src/puts.rt",
 ];

@@ -2,7 +2,7 @@ use mathlib.Core.Path.{_∙_}
 use borrow.Author.Needs.{needs}
 use Rattle.program.proofs.branches.over_and_back.Statement.{statement}
 use Rattle.program.proofs.branches.over_and_back.Tie as tie
-use Rattle.program.proofs.Going.{over-and-back}
+use Rattle.runs.proofs.Going.{over-and-back}
 
 returns : tie.Need-returns
 returns c = over-and-back _ _ _ _ _ _ _ _ _ _ (c .before .before .before .before .before .before .before .before .before .before .before .before .before .before .before .before .before .before .before .before .before .before .before .before .before .before .before .before .before .before .before .before .before .before .before .before .before .before .before .before .before .before .before .before .before .before .before .before .before .before .before .rewind .ensures) (c .before .before .before .before .before .before .before .before .before .before .before .before .before .before .before .before .before .before .before .before .rewind2 .ensures)

@@ -2,7 +2,7 @@ use mathlib.Core.Path.{refl}
 use borrow.Author.Needs.{needs}
 use Rattle.program.proofs.taking.rewind.Statement.{statement}
 use Rattle.program.proofs.taking.rewind.Tie as tie
-use Rattle.program.proofs.Going.{rewound}
+use Rattle.runs.proofs.Going.{rewound}
 
 returns : tie.Need-returns
 returns c = let k = c .before .before .before .before .before .before .before .before .before .before .before .before .before .before .before .before .before .before .before .before .before .before .before .before .before .before .before .before .before .before .before .cichowiej-rewind in rewound _ _ _ _ _ _ (c .hold .ensures .0) (c .hold .ensures .1) (k .result) (k .ensures .1)

@@ -1,0 +1,2 @@
+-- Laws that the proofs of a program's functions cite.
+pub mod Going

@@ -1,7 +1,4 @@
-// The study record as bytes: numbers of fixed widths, one after another.
-pub mod entries;
-pub mod payloads;
-
+// The study record as numbers of fixed widths, one after another; `payloads` writes them as bytes, `reads` reads them.
 ghost use mathlib.Core.Path.{_≡_};
 ghost use Prim.Native.Nat.{_≤_};
 ghost use lib.ListN.{getD};

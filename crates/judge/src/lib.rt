@@ -21,8 +21,7 @@ use grid::stores::Lengths;
 use heads::GH_LENGTH;
 use heads::ML_LENGTH;
 use heads::OLD_LENGTH;
-use heads::entries;
-use heads::payloads;
+use reads::entries;
 
 pub const TRAILING: u32 = 16;
 
@@ -52,9 +51,9 @@ pub fn head_at(b: &[u8], at: usize, old: bool) -> [u64; 27]
     ensures { λ n. ⌜ n ≡ headBy old (drop at (now (b .entry))) ⌝ }
 {
     if old {
-        return payloads::get_old_gh(b, at);
+        return reads::get_old_gh(b, at);
     }
-    payloads::get_gh(b, at)
+    reads::get_gh(b, at)
 }
 
 // The record that GH alone says: each material vacuum.
@@ -105,7 +104,7 @@ fn entries_fine(b: &[u8], at: usize, count: usize) -> bool
 {
     let mut i = 0;
     while i < count {
-        let n = payloads::get_ml(b, at + ML_LENGTH * i);
+        let n = reads::get_ml(b, at + ML_LENGTH * i);
         if !heads::ml_fine(n) {
             return false;
         }

@@ -32,7 +32,6 @@ use format::PP;
 use grid::Record;
 use heads::GH_LENGTH;
 use heads::ML_LENGTH;
-use heads::payloads;
 
 // Where ML's record begins, behind GH's, and where its materials do.
 const LIST_PLACE: usize = 6 + GH_LENGTH;

@@ -10,8 +10,8 @@ use codec::stores;
 use grid::Record;
 use heads::ML_LENGTH;
 use heads::OLD_LENGTH;
-use heads::entries;
 use puts::ENTRIES_PLACE;
+use reads::entries;
 
 // Where the materials begin, behind the six bytes of their record and GH's.
 fn entries_from(old: bool) -> usize

@@ -1,9 +1,9 @@
 use Rattle.grid.proofs.Settled.{taken-up, turned-down}
 use mathlib.Core.Path.{refl}
 use Rattle.boundary.specs.Walls.{setPeriodicCall}
 use borrow.Author.Needs.{needs}
-use Rattle.boundary.proofs.walls.set_periodic.Statement.{statement}
-use Rattle.boundary.proofs.walls.set_periodic.Tie as tie
+use Rattle.walling.proofs.set_periodic.Statement.{statement}
+use Rattle.walling.proofs.set_periodic.Tie as tie
 
 returns : tie.Need-returns
 unfolding setPeriodicCall

@@ -1,10 +1,10 @@
-use Rattle.boundary.proofs.Settling.{lossed-are, lossy-none}
+use Rattle.walling.proofs.Settling.{lossed-are, lossy-none}
 use mathlib.Core.Path.{_∙_, sym}
 use Rattle.grid.proofs.Settled.{taken-up, turned-down}
 use Rattle.boundary.specs.Walls.{lossed, setLossyCall}
 use borrow.Author.Needs.{needs}
-use Rattle.boundary.proofs.walls.set_boundary_lossy.Statement.{statement}
-use Rattle.boundary.proofs.walls.set_boundary_lossy.Tie as tie
+use Rattle.walling.proofs.set_boundary_lossy.Statement.{statement}
+use Rattle.walling.proofs.set_boundary_lossy.Tie as tie
 
 returns : tie.Need-returns
 unfolding setLossyCall

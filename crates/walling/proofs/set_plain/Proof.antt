@@ -1,13 +1,13 @@
 use mathlib.Core.Path.{_∙_, ap, sym}
 use Rattle.boundary.specs.Walls.{plainFault, setPlainCall}
 use Rattle.opening.specs.Layer.{layer, layerLong}
-use Rattle.boundary.proofs.Settling.{plain-none}
+use Rattle.walling.proofs.Settling.{plain-none}
 use Rattle.grid.specs.Stores.{lentFault}
 use lib.ListN.{length}
 use Rattle.grid.proofs.Settled.{judged-fault, taken-up, turned-down}
 use borrow.Author.Needs.{needs}
-use Rattle.boundary.proofs.walls.set_plain.Statement.{statement}
-use Rattle.boundary.proofs.walls.set_plain.Tie as tie
+use Rattle.walling.proofs.set_plain.Statement.{statement}
+use Rattle.walling.proofs.set_plain.Tie as tie
 
 returns : tie.Need-returns
 unfolding setPlainCall plainFault

@@ -1,13 +1,13 @@
 use Rattle.grid.specs.Stores.{lentFault}
 use Rattle.grid.proofs.Settled.{judged-fault}
 use Rattle.opening.specs.Layer.{layerLong}
 use Rattle.boundary.specs.Walls.{lossyFault}
 use lib.Dec.{eqb}
 use mathlib.Core.Bool.{Bool, _&&_}
 use mathlib.Core.Path.{_∙_, ap}
 use borrow.Author.Needs.{needs}
-use Rattle.boundary.proofs.walls.lossy_fault.Statement.{statement}
-use Rattle.boundary.proofs.walls.lossy_fault.Tie as tie
+use Rattle.walling.proofs.lossy_fault.Statement.{statement}
+use Rattle.walling.proofs.lossy_fault.Tie as tie
 
 returns : tie.Need-returns
 unfolding lossyFault

@@ -46,7 +46,7 @@ fn entry_fine(b: &[u8], i: usize, count: usize) -> bool
     let at = GH_LENGTH + ML_LENGTH * i;
     if i < count {
         let n = reads::get_ml(b, at);
-        return heads::ml_shaped(n);
+        return shapes::ml_shaped(n);
     }
     let end = at + ML_LENGTH;
     all_zero(&b[at..end])
@@ -74,7 +74,7 @@ pub fn is_record(b: &[u8]) -> bool
         return false;
     }
     let n = reads::get_gh(b, 0);
-    heads::gh_shaped(n) & entries_fine(b, n[12] as usize)
+    shapes::gh_shaped(n) & entries_fine(b, n[12] as usize)
 }
 
 // How many of the entries are counted.

@@ -76,7 +76,7 @@ pub fn material_fault(m: &[u8]) -> u32
         return BAD_STORE;
     }
     let n = reads::get_ml(m, 0);
-    fault::first_fault(heads::ml_shaped(n), BAD_STUDY, 0)
+    fault::first_fault(shapes::ml_shaped(n), BAD_STUDY, 0)
 }
 
 pub fn get_material(m: &[u8]) -> DispersiveMaterial

@@ -71,7 +71,7 @@ fn head_good(g: [u64; 27]) -> bool
     ensures { λ t. ⌜ t ≡ headGood g ⌝ }
 {
     let r = bare_record(g);
-    heads::gh_fine(g) & (fault::fault_of(r) == 0)
+    shapes::gh_fine(g) & (fault::fault_of(r) == 0)
 }
 
 // A record whose frame has no fault, its payload judged.
@@ -105,7 +105,7 @@ fn entries_fine(b: &[u8], at: usize, count: usize) -> bool
     let mut i = 0;
     while i < count {
         let n = reads::get_ml(b, at + ML_LENGTH * i);
-        if !heads::ml_fine(n) {
+        if !shapes::ml_fine(n) {
             return false;
         }
         i += 1;

@@ -1,9 +1,9 @@
 use mathlib.Core.Path.{refl}
 use borrow.Author.Tests.{not-false, not-true}
 use borrow.Author.Needs.{needs}
 use Rattle.heads.specs.Numbers.{slotShaped}
-use Rattle.heads.proofs.slot_shaped.Statement.{statement}
-use Rattle.heads.proofs.slot_shaped.Tie as tie
+use Rattle.shapes.proofs.slot_shaped.Statement.{statement}
+use Rattle.shapes.proofs.slot_shaped.Tie as tie
 
 returns : tie.Need-returns
 unfolding slotShaped

@@ -1,9 +1,9 @@
 use mathlib.Core.Path.{refl}
 use Rattle.grid.specs.Fault.{allBelow}
 use Rattle.heads.specs.Numbers.{cornersFine}
 use borrow.Author.Needs.{needs}
-use Rattle.heads.proofs.corners_fine.Statement.{statement}
-use Rattle.heads.proofs.corners_fine.Tie as tie
+use Rattle.shapes.proofs.corners_fine.Statement.{statement}
+use Rattle.shapes.proofs.corners_fine.Tie as tie
 
 returns : tie.Need-returns
 unfolding cornersFine allBelow

@@ -1,8 +1,8 @@
 use mathlib.Core.Path.{refl}
 use Rattle.heads.specs.Numbers.{ghShaped}
 use borrow.Author.Needs.{needs}
-use Rattle.heads.proofs.gh_shaped.Statement.{statement}
-use Rattle.heads.proofs.gh_shaped.Tie as tie
+use Rattle.shapes.proofs.gh_shaped.Statement.{statement}
+use Rattle.shapes.proofs.gh_shaped.Tie as tie
 
 returns : tie.Need-returns
 unfolding ghShaped

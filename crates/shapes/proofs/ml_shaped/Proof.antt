@@ -1,9 +1,9 @@
 use mathlib.Core.Path.{refl}
 use Rattle.grid.specs.Fault.{allBelow}
 use Rattle.heads.specs.Numbers.{mlShaped}
 use borrow.Author.Needs.{needs}
-use Rattle.heads.proofs.ml_shaped.Statement.{statement}
-use Rattle.heads.proofs.ml_shaped.Tie as tie
+use Rattle.shapes.proofs.ml_shaped.Statement.{statement}
+use Rattle.shapes.proofs.ml_shaped.Tie as tie
 
 returns : tie.Need-returns
 unfolding mlShaped allBelow

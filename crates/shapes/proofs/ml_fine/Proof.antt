@@ -1,9 +1,9 @@
 use mathlib.Core.Path.{refl}
 use Rattle.grid.specs.Fault.{allBelow}
 use Rattle.heads.specs.Numbers.{mlFine}
 use borrow.Author.Needs.{needs}
-use Rattle.heads.proofs.ml_fine.Statement.{statement}
-use Rattle.heads.proofs.ml_fine.Tie as tie
+use Rattle.shapes.proofs.ml_fine.Statement.{statement}
+use Rattle.shapes.proofs.ml_fine.Tie as tie
 
 returns : tie.Need-returns
 unfolding mlFine allBelow

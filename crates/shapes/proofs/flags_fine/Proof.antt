@@ -1,9 +1,9 @@
 use Rattle.grid.specs.Fault.{allBelow}
 use Rattle.heads.specs.Numbers.{flagsFine}
 use mathlib.Core.Path.{refl}
 use borrow.Author.Needs.{needs}
-use Rattle.heads.proofs.flags_fine.Statement.{statement}
-use Rattle.heads.proofs.flags_fine.Tie as tie
+use Rattle.shapes.proofs.flags_fine.Statement.{statement}
+use Rattle.shapes.proofs.flags_fine.Tie as tie
 
 returns : tie.Need-returns
 unfolding flagsFine allBelow

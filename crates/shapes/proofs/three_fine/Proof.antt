@@ -1,7 +1,7 @@
 use mathlib.Core.Path.{refl}
 use borrow.Author.Needs.{needs}
-use Rattle.heads.proofs.three_fine.Statement.{statement}
-use Rattle.heads.proofs.three_fine.Tie as tie
+use Rattle.shapes.proofs.three_fine.Statement.{statement}
+use Rattle.shapes.proofs.three_fine.Tie as tie
 
 returns : tie.Need-returns
 returns c = rw (c .is-fine3 .ensures, c .before .is-fine2 .ensures, c .before .before .is-fine .ensures) refl

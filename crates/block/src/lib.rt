@@ -17,8 +17,7 @@ use grid::Clock;
 use grid::Record;
 use heads::GH_LENGTH;
 use heads::ML_LENGTH;
-use heads::entries;
-use heads::payloads;
+use reads::entries;
 
 const ENTRIES: usize = 16;
 
@@ -46,8 +45,8 @@ fn entry_fine(b: &[u8], i: usize, count: usize) -> bool
 {
     let at = GH_LENGTH + ML_LENGTH * i;
     if i < count {
-        let n = payloads::get_ml(b, at);
-        return heads::ml_shaped(n);
+        let n = reads::get_ml(b, at);
+        return shapes::ml_shaped(n);
     }
     let end = at + ML_LENGTH;
     all_zero(&b[at..end])
@@ -74,8 +73,8 @@ pub fn is_record(b: &[u8]) -> bool
     if b.len() != BLOCK_LENGTH {
         return false;
     }
-    let n = payloads::get_gh(b, 0);
-    heads::gh_shaped(n) & entries_fine(b, n[12] as usize)
+    let n = reads::get_gh(b, 0);
+    shapes::gh_shaped(n) & entries_fine(b, n[12] as usize)
 }
 
 // How many of the entries are counted.
@@ -89,7 +88,7 @@ pub fn get_record(b: &[u8]) -> Record
     requires { ⌜ blockFine (now b) ≡ true ⌝ }
     ensures { λ r. ⌜ r ≡ blockRecord (now (b .entry)) ⌝ }
 {
-    let n = payloads::get_gh(b, 0);
+    let n = reads::get_gh(b, 0);
     let count = counted_of(n[12] as usize);
     let materials = entries::get_materials(b, GH_LENGTH, count);
     heads::gh_of(n, materials)

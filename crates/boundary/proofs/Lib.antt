@@ -1,4 +1,3 @@
 -- Laws that the functions' proofs cite.
 pub mod Power
 pub mod Graded
-pub mod Settling

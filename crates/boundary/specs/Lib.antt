@@ -1,3 +1,3 @@
--- What the contracts of boundary cite.
+-- What the contracts of boundary and of walling cite.
 pub mod Lossy
 pub mod Walls

@@ -1,6 +1,5 @@
-// Walls that conduct, wrap round or absorb by a graded conductivity.
+// The graded conductivity of walls that absorb; the calls that set walls are in `walling`.
 pub mod lossy;
-pub mod walls;
 
 // The lossy edge: at most thickness cells from each wall, sigma_max at the wall itself, falling by a power of the depth.
 pub struct LossyAbsorber {

@@ -12,7 +12,6 @@ use grid::fault;
 use grid::fault::BAD_STUDY;
 use grid::stores::BAD_STORE;
 use heads::ML_LENGTH;
-use heads::payloads;
 
 // The record that a call answered goes into the block where the call was accepted.
 pub fn keep(b: &mut [u8], refusal: u32, study: Record)
@@ -76,14 +75,14 @@ pub fn material_fault(m: &[u8]) -> u32
     if m.len() != ML_LENGTH {
         return BAD_STORE;
     }
-    let n = payloads::get_ml(m, 0);
-    fault::first_fault(heads::ml_shaped(n), BAD_STUDY, 0)
+    let n = reads::get_ml(m, 0);
+    fault::first_fault(shapes::ml_shaped(n), BAD_STUDY, 0)
 }
 
 pub fn get_material(m: &[u8]) -> DispersiveMaterial
     requires { ⌜ materialFault (now m) ≡ 0 ⌝ }
     ensures { λ r. ⌜ r ≡ materialOf (now (m .entry)) ⌝ }
 {
-    let n = payloads::get_ml(m, 0);
+    let n = reads::get_ml(m, 0);
     heads::ml_of(n)
 }

@@ -10,7 +10,7 @@ pub fn put_coeffs(tag: u32, x: f64, y: f64, z: f64, eps0: f64, dt: f64, out: &mu
     ensures { λ r. ⌜ (r ≡ coeffsAsked tag (now (out .entry))) × (now (out .exit) ≡ coeffsOr r (adeCoeffs eps0 dt (poleOf tag x y z)) (now (out .entry))) ⌝ }
 {
     let t = tag as u64;
-    if !(heads::is_tag(t) & (out.len() == 3)) {
+    if !(shapes::is_tag(t) & (out.len() == 3)) {
         return false;
     }
     let c = heads::pole_of(t, x, y, z).ade_coeffs(eps0, dt);

@@ -1,5 +1,4 @@
--- Laws that the functions' proofs cite.
+-- Laws that the functions' proofs cite, here and in `payloads` and `reads`.
 pub mod Flat
 pub mod Whole
-pub mod Written
 pub mod Listed

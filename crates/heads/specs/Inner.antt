@@ -1,2 +1,2 @@
--- What the code of this crate alone needs; no reader of the definitions does.
+-- What the code of `payloads` and `reads` alone needs; no reader of the definitions does.
 pub mod Parts

@@ -1,12 +1,9 @@
-// The study record as bytes: numbers of fixed widths, one after another.
-pub mod entries;
-pub mod payloads;
-
+// The study record as numbers of fixed widths, one after another; `payloads` writes them as bytes, `reads` reads them, `shapes` tells whether they are a record's.
 ghost use mathlib.Core.Path.{_≡_};
 ghost use Prim.Native.Nat.{_≤_};
 ghost use lib.ListN.{getD};
 ghost use Rattle.grid.specs.Canon.{canonRegion};
-ghost use Rattle.heads.specs.Numbers.{kindNum, kindOf, poleNums, poleOf, isTag, slotNums, slotOf, slotShaped, threeFine, mlShaped, mlFine, mlOf, flagNum, flagNums, floatNums, flagsFine, cornersFine, ghShaped, ghFine, ghOf};
+ghost use Rattle.heads.specs.Numbers.{kindNum, kindOf, poleNums, poleOf, slotNums, slotOf, mlOf, flagNum, flagNums, floatNums, ghOf};
 use codec::floats;
 use dispersion::DispersiveMaterial;
 use dispersion::Pole;
@@ -85,7 +82,7 @@ pub fn slot_nums(counted: bool, s: PoleSlot) -> [u64; 4]
     pole_nums(p)
 }
 
-// Any other tag than 1 and 2 is read as Debye's: whether it is one is `is_tag`.
+// Any other tag than 1 and 2 is read as Debye's: whether it is one is `is_tag` of `shapes`.
 pub fn pole_of(tag: u64, x: f64, y: f64, z: f64) -> Pole
     ensures { λ p. ⌜ p ≡ poleOf tag x y z ⌝ }
 {
@@ -108,12 +105,6 @@ pub fn pole_of(tag: u64, x: f64, y: f64, z: f64) -> Pole
     }
 }
 
-pub fn is_tag(tag: u64) -> bool
-    ensures { λ t. ⌜ t ≡ isTag tag ⌝ }
-{
-    (1 <= tag) & (tag <= 3)
-}
-
 fn slot_of(tag: u64, a: u64, b: u64, c: u64) -> PoleSlot
     ensures { λ s. ⌜ s ≡ slotOf tag a b c ⌝ }
 {
@@ -123,43 +114,6 @@ fn slot_of(tag: u64, a: u64, b: u64, c: u64) -> PoleSlot
     PoleSlot {
         pole: pole_of(tag, x, y, z),
     }
-}
-
-fn slot_shaped(counted: bool, tag: u64, a: u64, b: u64, c: u64) -> bool
-    ensures { λ f. ⌜ f ≡ slotShaped counted tag a b c ⌝ }
-{
-    if !counted {
-        return (tag == 0) & (a == 0) & (b == 0) & (c == 0);
-    }
-    is_tag(tag) & ((tag == 1) | (c == 0))
-}
-
-// Whether numbers are a material's, its floats any patterns.
-pub fn ml_shaped(n: [u64; 20]) -> bool
-    ensures { λ f. ⌜ f ≡ mlShaped n ⌝ }
-{
-    let k = n[3];
-    slot_shaped(0 < k, n[4], n[5], n[6], n[7])
-        & slot_shaped(1 < k, n[8], n[9], n[10], n[11])
-        & slot_shaped(2 < k, n[12], n[13], n[14], n[15])
-        & slot_shaped(3 < k, n[16], n[17], n[18], n[19])
-}
-
-fn three_fine(a: u64, b: u64, c: u64) -> bool
-    ensures { λ f. ⌜ f ≡ threeFine a b c ⌝ }
-{
-    floats::is_fine(a) & floats::is_fine(b) & floats::is_fine(c)
-}
-
-// Whether they are a material's as a save has it: no NaN but the one.
-pub fn ml_fine(n: [u64; 20]) -> bool
-    ensures { λ f. ⌜ f ≡ mlFine n ⌝ }
-{
-    let poles = three_fine(n[5], n[6], n[7])
-        & three_fine(n[9], n[10], n[11])
-        & three_fine(n[13], n[14], n[15])
-        & three_fine(n[17], n[18], n[19]);
-    ml_shaped(n) & three_fine(n[0], n[1], n[2]) & poles
 }
 
 pub fn ml_of(n: [u64; 20]) -> DispersiveMaterial
@@ -228,44 +182,6 @@ pub fn kept_region(g: Region) -> Region
         };
     }
     g
-}
-
-fn flags_fine(n: [u64; 27]) -> bool
-    ensures { λ f. ⌜ f ≡ flagsFine n ⌝ }
-{
-    (n[3] <= 1)
-        & (n[4] <= 1)
-        & (n[5] <= 1)
-        & (n[6] <= 1)
-        & (n[7] <= 1)
-        & (n[8] <= 1)
-        & (n[9] <= 1)
-        & (n[13] <= 3)
-}
-
-fn corners_fine(n: [u64; 27]) -> bool
-    ensures { λ f. ⌜ f ≡ cornersFine n ⌝ }
-{
-    (0 < n[13])
-        | ((n[14] == 0) & (n[15] == 0) & (n[16] == 0) & (n[17] == 0) & (n[18] == 0) & (n[19] == 0))
-}
-
-// Whether numbers are a record's, its floats any patterns.
-pub fn gh_shaped(n: [u64; 27]) -> bool
-    ensures { λ f. ⌜ f ≡ ghShaped n ⌝ }
-{
-    flags_fine(n) & corners_fine(n)
-}
-
-// Whether they are a record's as a save has it: no NaN but the one.
-pub fn gh_fine(n: [u64; 27]) -> bool
-    ensures { λ f. ⌜ f ≡ ghFine n ⌝ }
-{
-    let spacings = floats::is_fine(n[20])
-        & floats::is_fine(n[21])
-        & floats::is_fine(n[22])
-        & floats::is_fine(n[23]);
-    gh_shaped(n) & (spacings & floats::is_fine(n[24]))
 }
 
 pub fn gh_of(n: [u64; 27], materials: [DispersiveMaterial; 16]) -> Record

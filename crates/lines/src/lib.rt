@@ -15,7 +15,6 @@ use grid::Record;
 use grid::fault;
 use grid::stores;
 use saves::gets;
-use saves::judge;
 
 pub const MOST_BYTES: usize = 24576;
 

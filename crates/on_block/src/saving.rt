@@ -9,7 +9,6 @@ use grid::Record;
 use grid::fault::BAD_STUDY;
 use grid::stores;
 use root::Spacings;
-use saves::judge;
 
 pub fn save_length(b: &[u8], length: &mut [usize]) -> u32
     ensures { λ n. ⌜ readout n (now (length .exit)) ≡ readBlock (λ r. answering (lengthCall r) (now (length .entry))) (now (b .entry)) (answered 0 (now (length .entry))) ⌝ }

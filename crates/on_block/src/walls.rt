@@ -7,7 +7,6 @@ ghost use Rattle.boundary.specs.Walls.{setPeriodicCall, setPlainCall, lossed, s
 ghost use Rattle.cpml.specs.Absorber.{setCpmlCall};
 ghost use Rattle.calls.specs.Blocks.{sent, onBlock, answered, naming, named};
 use boundary::LossyAbsorber;
-use boundary::walls;
 use calls::blocks;
 use cpml::absorber;
 use grid::fault::BAD_STUDY;
@@ -19,7 +18,7 @@ pub fn set_periodic(b: &mut [u8], x: bool, y: bool, z: bool) -> u32
         return BAD_STUDY;
     }
     let r = block::get_record(b);
-    let o = walls::set_periodic(r, [x, y, z]);
+    let o = walling::set_periodic(r, [x, y, z]);
     blocks::keep(b, o.refusal, o.study);
     o.refusal
 }
@@ -36,7 +35,7 @@ pub fn set_boundary_periodic(
         return BAD_STUDY;
     }
     let r = block::get_record(b);
-    let o = walls::set_boundary_periodic(r, psi_e, psi_h, tables);
+    let o = walling::set_boundary_periodic(r, psi_e, psi_h, tables);
     blocks::keep(b, o.refusal, o.study);
     o.refusal
 }
@@ -53,7 +52,7 @@ pub fn set_boundary_conductor(
         return BAD_STUDY;
     }
     let r = block::get_record(b);
-    let o = walls::set_boundary_conductor(r, psi_e, psi_h, tables);
+    let o = walling::set_boundary_conductor(r, psi_e, psi_h, tables);
     blocks::keep(b, o.refusal, o.study);
     o.refusal
 }
@@ -79,7 +78,7 @@ pub fn set_boundary_lossy(
         order,
         sigma_max,
     };
-    let o = walls::set_boundary_lossy(r, a, psi_e, psi_h, tables, media);
+    let o = walling::set_boundary_lossy(r, a, psi_e, psi_h, tables, media);
     blocks::keep(b, o.refusal, o.study);
     o.refusal
 }

@@ -6,7 +6,6 @@ pub mod waves;
 ghost use mathlib.Core.Path.{_≡_};
 ghost use lib.ListN.{length};
 use boundary::LossyAbsorber;
-use boundary::walls;
 use codec::floats;
 use cpml::Psi;
 use cpml::absorber;
@@ -184,7 +183,7 @@ fn memories_cleared(r: Record, last: f64) -> bool {
     let mut psi_e = [1.5; 144];
     let mut psi_h = [1.5; 144];
     let mut tables = [1.5; 156];
-    let o = walls::set_boundary_conductor(r, &mut psi_e, &mut psi_h, &mut tables);
+    let o = walling::set_boundary_conductor(r, &mut psi_e, &mut psi_h, &mut tables);
     psi_h[143] = last;
     let electric = electric_cleared(&psi_e, &psi_h);
     let magnetic = magnetic_cleared(&psi_e, &psi_h);
@@ -202,7 +201,7 @@ fn sigma_kept(r: Record, stated: f64) -> bool {
     let mut psi_h = [0.0; 6];
     let mut tables = [0.0; 18];
     let mut media = [1.0, 1.0, 0.25];
-    let o = walls::set_boundary_lossy(r, a, &mut psi_e, &mut psi_h, &mut tables, &mut media);
+    let o = walling::set_boundary_lossy(r, a, &mut psi_e, &mut psi_h, &mut tables, &mut media);
     (o.refusal == 0) & same(media[2], stated)
 }
 

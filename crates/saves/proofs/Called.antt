@@ -15,7 +15,7 @@ use Rattle.grid.specs.Stores.{Stores, outcome, cells, storeLengths, lengthsOf, 
 use Rattle.grid.proofs.Settled.{turned-down, taken-up, with-none}
 use Rattle.grid.proofs.Tests.{or-stays, or-goes}
 use Rattle.format.specs.Save.{saveBytes, saveLength, saveFault, saveCall, noRoom}
-use Rattle.saves.specs.Inner.Room.{Roomy}
+use Rattle.puts.specs.Inner.Room.{Roomy}
 use Rattle.format.proofs.Written.{pole-count}
 
 -- what the code that writes and reads needs of lengths, where the stores are the record's and there are bytes enough for its save

@@ -26,7 +26,7 @@ use Rattle.saves.specs.Inner.Places.{listFrom, entriesFrom, storesFrom, 
 use Rattle.format.proofs.Bare.{bare-lengths}
 use Rattle.format.proofs.Back.{nine-same}
 use Rattle.format.proofs.Again.{read-none, read-long}
-use Rattle.saves.proofs.Judged.{head-room, head-count, record-left}
+use Rattle.judge.proofs.Judged.{head-room, head-count, record-left}
 use Rattle.saves.proofs.Called.{RoomFor, roomy}
 
 pub all-bytes : (b : List ℕ) → ((i : ℕ) → getD b i 0 < 256) → T (bytesFit b)

@@ -6,13 +6,12 @@ ghost use Rattle.codec.specs.Bytes.{floatsOf, idsOf};
 ghost use Rattle.grid.specs.Stores.{stores, lengthsOf};
 ghost use Rattle.format.specs.Rewind.{isOld, bytesFault, readRecord};
 ghost use Rattle.saves.specs.Inner.Places.{entriesFrom, storesFrom, storesAt};
-use crate::judge;
-use crate::puts::ENTRIES_PLACE;
 use codec::stores;
 use grid::Record;
 use heads::ML_LENGTH;
 use heads::OLD_LENGTH;
-use heads::entries;
+use puts::ENTRIES_PLACE;
+use reads::entries;
 
 // Where the materials begin, behind the six bytes of their record and GH's.
 fn entries_from(old: bool) -> usize

@@ -1,7 +1,5 @@
-// The save: eleven records, written, judged and read.
+// The save: eleven records, written (`puts`), judged (`judge`) and read.
 pub mod gets;
-pub mod judge;
-pub mod puts;
 
 ghost use mathlib.Core.Path.{_≡_};
 ghost use Rattle.grid.specs.Stores.{stores, outcome};

@@ -4,7 +4,7 @@ use Prim.Native.Nat.{ℕ, _≤_}
 use native.Mathlib.Omega.{arith}
 use lib.ListN.{getD}
 use Rattle.heads.specs.Numbers.{ghOf}
-use Rattle.saves.proofs.Judged.{steps-small}
+use Rattle.judge.proofs.Judged.{steps-small}
 use Rattle.saves.proofs.Taken.{gh-there, ml-there, record-there}
 use borrow.Author.Needs.{needs}
 use Rattle.saves.proofs.gets.get_record.Statement.{statement}

@@ -1,0 +1,2 @@
+-- What the contracts of puts cite.
+pub mod Inner

@@ -1,6 +1,0 @@
-use mathlib.Core.Path.{refl}
-use Rattle.saves.proofs.judge.passed.Statement.{statement}
-use Rattle.saves.proofs.judge.passed.Tie as tie
-
-pub passed-spec : {M : Type 1} → statement M
-passed-spec = tie.close (tie.spec (λ c. rw (c .if1 .taken) refl) (λ c. rw (c .if1 .left) refl))

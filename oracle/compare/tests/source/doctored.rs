@@ -30,7 +30,7 @@ const WORDS: &str = "crates/codec/src/words.rt";
 const GRID: &str = "crates/grid/src/lib.rt";
 const HEADS: &str = "crates/heads/src/lib.rt";
 const ON_BLOCK: &str = "crates/on_block/src/saving.rt";
-const PUTS: &str = "crates/saves/src/puts.rt";
+const PUTS: &str = "crates/puts/src/lib.rt";
 
 /// What `put_f64` does.
 const PUT_F64: &str = "

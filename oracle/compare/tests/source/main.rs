@@ -17,7 +17,7 @@ use tree::{Texts, Tree, texts};
 const SAVE: [&str; 3] = ["api", "saving", "cichowiej_save"];
 
 /// The files that the writer's functions stand in, below crates/.
-const WRITER: [&str; 16] = [
+const WRITER: [&str; 18] = [
     "api/src/saving.rt",
     "block/src/lib.rt",
     "codec/src/floats.rt",
@@ -28,12 +28,14 @@ const WRITER: [&str; 16] = [
     "dispersion/src/lib.rt",
     "grid/src/fault.rt",
     "grid/src/stores.rt",
-    "heads/src/entries.rt",
     "heads/src/lib.rt",
-    "heads/src/payloads.rt",
     "on_block/src/saving.rt",
+    "payloads/src/lib.rt",
+    "puts/src/lib.rt",
+    "reads/src/entries.rt",
+    "reads/src/lib.rt",
     "saves/src/lib.rt",
-    "saves/src/puts.rt",
+    "shapes/src/lib.rt",
 ];
 
 fn found(texts: &Texts) -> Vec<Finding> {

@@ -6,6 +6,8 @@ SHELL := /bin/bash -o pipefail
 # What a failed rule has left is not taken for its result.
 .DELETE_ON_ERROR:
 .PHONY: curve man test format prove kit setup engine command compare host compare-long cluster-test bench by-turns validate
+# Checks at a time: `rt` waits for all of a group before it begins the next, so that on two cores four are quicker than two. They take up to 10 GB together.
+export RT_JOBS ?= 4
 # Another library than this tree's is for `by-turns` alone: no test is to be run on it unawares.
 unexport CICHOWIEJ_LIBRARY
 

@@ -135,7 +135,7 @@ extern "C" {
 #define CICHOWIEJ_AT_MATERIALS 74      /* MAX_MATERIALS of them, MATERIAL_LENGTH bytes each; those past the material count are zero */
 
 /* ---- where a field of a material begins, in its bytes */
-#define CICHOWIEJ_MATERIAL_AT_EPS_INF 0     /* eps_inf, sigma, mu_r: double each. cichowiej_set_material has another order */
+#define CICHOWIEJ_MATERIAL_AT_EPS_INF 0     /* eps_inf, sigma, mu_r: double each. cichowiej_put_box has another order */
 #define CICHOWIEJ_MATERIAL_AT_SIGMA 8
 #define CICHOWIEJ_MATERIAL_AT_MU_R 16
 #define CICHOWIEJ_MATERIAL_AT_POLE_COUNT 24 /* a byte */
@@ -212,19 +212,19 @@ uint32_t cichowiej_open(uint8_t *block, size_t block_length, size_t nx, size_t n
 
 /* ---- materials. Boxes hold the cells from i0 up to, not with, i1, and likewise on y and z; upper ends are cut to the grid, and an empty
    or backward range holds no cell */
-/* overwrites eps_r, mu_r and sigma in the box. The ids are left, so that a cell keeps the poles of the material it has */
-uint32_t cichowiej_set_material(uint8_t *block, size_t block_length, size_t i0, size_t i1, size_t j0, size_t j1, size_t k0,
-                                size_t k1, double eps_r, double mu_r, double sigma, double *media, size_t media_length);
 /* puts a material behind those that stand, and its id into id; no cell has it yet, and what is built stays. After the record's own
    faults: BAD_STORE for another length of the material's bytes, BAD_STUDY for bytes that are no material, TOO_MANY_POLES, FULL */
 uint32_t cichowiej_add_material(uint8_t *block, size_t block_length, const uint8_t *material, size_t material_length, uint32_t *id,
                                 size_t id_length);
-/* overwrites eps_r, mu_r and sigma in the box by the material's eps_inf, mu_r and sigma, and the ids by its id. Its poles do nothing
-   before cichowiej_build_dispersion. NO_SUCH_MATERIAL, also where the box is empty */
-uint32_t cichowiej_assign_material_box(uint8_t *block, size_t block_length, uint32_t id, size_t i0, size_t i1, size_t j0,
-                                       size_t j1, size_t k0, size_t k1, double *media, size_t media_length, uint32_t *ids,
-                                       size_t ids_length);
-/* the same in every cell from plane k0 on */
+/* puts three numbers or, where library is true, a material into each cell of the box; how many cells these are, those that had it already
+   among them, goes into cells. Three numbers overwrite eps_r, mu_r and sigma, and the ids are left, so that a cell keeps the poles of the
+   material it has; id is then not looked at. A material overwrites them by its eps_inf, mu_r and sigma, and the ids by id; the numbers are
+   then not looked at. Its poles do nothing before cichowiej_build_dispersion. NO_SUCH_MATERIAL for a material alone, also where the box is
+   empty; cells is then 0, as in every refusal */
+uint32_t cichowiej_put_box(uint8_t *block, size_t block_length, size_t i0, size_t i1, size_t j0, size_t j1, size_t k0, size_t k1,
+                           bool library, uint32_t id, double eps_r, double mu_r, double sigma, double *media, size_t media_length,
+                           uint32_t *ids, size_t ids_length, uint32_t *cells, size_t cells_length);
+/* a material in every cell from plane k0 on, as put_box puts it */
 uint32_t cichowiej_assign_material_halfspace_z(uint8_t *block, size_t block_length, uint32_t id, size_t k0, double *media,
                                                size_t media_length, uint32_t *ids, size_t ids_length);
 /* from now on the poles of all materials that stand act; a material added later needs another call. The whole of poles becomes +0.0.
@@ -243,7 +243,7 @@ uint32_t cichowiej_set_boundary_conductor(uint8_t *block, size_t block_length, d
                                           size_t psi_h_length, double *tables, size_t tables_length);
 /* the periodic flags stay; the layer goes off, and no axis is active. The thickness is cut to half of the cells along an axis, and is 0
    along a periodic one. Unless it is 0 along all three, sigma is overwritten in every cell, +0.0 away from the walls: what a material
-   or cichowiej_set_material put there is lost, and what they put there later takes the place of this. BAD_ORDER */
+   or three numbers of cichowiej_put_box put there is lost, and what they put there later takes the place of this. BAD_ORDER */
 uint32_t cichowiej_set_boundary_lossy(uint8_t *block, size_t block_length, size_t thickness, size_t order, double sigma_max,
                                       double *psi_e, size_t psi_e_length, double *psi_h, size_t psi_h_length, double *tables,
                                       size_t tables_length, double *media, size_t media_length);
@@ -691,18 +691,6 @@ static inline uint32_t cichowiej_study_open(cichowiej_study *study, size_t nx, s
     return cichowiej_open(CICHOWIEJ_LENT_BLOCK, nx, ny, nz, pole_slots, constants, dx, dy, dz, dt, CICHOWIEJ_LENT_ALL);
 }
 
-/* what cichowiej_set_material puts into a cell, by name */
-typedef struct cichowiej_media {
-    double eps_r, mu_r, sigma;
-} cichowiej_media;
-
-static inline uint32_t cichowiej_study_set_material(cichowiej_study *study, size_t i0, size_t i1, size_t j0, size_t j1, size_t k0,
-                                                    size_t k1, cichowiej_media media)
-{
-    return cichowiej_set_material(CICHOWIEJ_LENT_BLOCK, i0, i1, j0, j1, k0, k1, media.eps_r, media.mu_r, media.sigma,
-                                  CICHOWIEJ_LENT(media));
-}
-
 static inline uint32_t cichowiej_study_add_material(cichowiej_study *study, const cichowiej_material *material, uint32_t *id)
 {
     uint8_t bytes[CICHOWIEJ_MATERIAL_LENGTH];
@@ -710,10 +698,30 @@ static inline uint32_t cichowiej_study_add_material(cichowiej_study *study, cons
     return cichowiej_add_material(CICHOWIEJ_LENT_BLOCK, bytes, CICHOWIEJ_MATERIAL_LENGTH, id, id != NULL);
 }
 
-static inline uint32_t cichowiej_study_assign_material_box(cichowiej_study *study, uint32_t id, size_t i0, size_t i1, size_t j0,
-                                                           size_t j1, size_t k0, size_t k1)
+/* what cichowiej_put_box puts into a cell: three numbers, or a material. What is not put is 0 in it, and not looked at */
+typedef struct cichowiej_put {
+    bool library;
+    uint32_t id;
+    double eps_r, mu_r, sigma;
+} cichowiej_put;
+
+static inline cichowiej_put cichowiej_numbers(double eps_r, double mu_r, double sigma)
 {
-    return cichowiej_assign_material_box(CICHOWIEJ_LENT_BLOCK, id, i0, i1, j0, j1, k0, k1, CICHOWIEJ_LENT(media), CICHOWIEJ_LENT(ids));
+    cichowiej_put what = {false, 0, eps_r, mu_r, sigma};
+    return what;
+}
+
+static inline cichowiej_put cichowiej_library(uint32_t id)
+{
+    cichowiej_put what = {true, id, 0.0, 0.0, 0.0};
+    return what;
+}
+
+static inline uint32_t cichowiej_study_put_box(cichowiej_study *study, size_t i0, size_t i1, size_t j0, size_t j1, size_t k0, size_t k1,
+                                               cichowiej_put what, uint32_t *cells)
+{
+    return cichowiej_put_box(CICHOWIEJ_LENT_BLOCK, i0, i1, j0, j1, k0, k1, what.library, what.id, what.eps_r, what.mu_r, what.sigma,
+                             CICHOWIEJ_LENT(media), CICHOWIEJ_LENT(ids), cells, cells != NULL);
 }
 
 static inline uint32_t cichowiej_study_assign_material_halfspace_z(cichowiej_study *study, uint32_t id, size_t k0)

@@ -30,16 +30,13 @@ unsafe extern "C" {
         psi_e: *mut f64, psi_e_length: usize, psi_h: *mut f64, psi_h_length: usize, tables: *mut f64, tables_length: usize,
         poles: *mut f64, poles_length: usize, aux: *mut f64, aux_length: usize, ids: *mut u32, ids_length: usize
     ) -> u32;
-    fn cichowiej_set_material(
-        block: *mut u8, block_length: usize, i0: usize, i1: usize, j0: usize, j1: usize, k0: usize, k1: usize, eps_r: f64, mu_r: f64, sigma: f64,
-        media: *mut f64, media_length: usize
-    ) -> u32;
     fn cichowiej_add_material(
         block: *mut u8, block_length: usize, material: *const u8, material_length: usize, id: *mut u32, id_length: usize
     ) -> u32;
-    fn cichowiej_assign_material_box(
-        block: *mut u8, block_length: usize, id: u32, i0: usize, i1: usize, j0: usize, j1: usize, k0: usize, k1: usize,
-        media: *mut f64, media_length: usize, ids: *mut u32, ids_length: usize
+    fn cichowiej_put_box(
+        block: *mut u8, block_length: usize, i0: usize, i1: usize, j0: usize, j1: usize, k0: usize, k1: usize,
+        library: bool, id: u32, eps_r: f64, mu_r: f64, sigma: f64,
+        media: *mut f64, media_length: usize, ids: *mut u32, ids_length: usize, cells: *mut u32, cells_length: usize
     ) -> u32;
     fn cichowiej_assign_material_halfspace_z(
         block: *mut u8, block_length: usize, id: u32, k0: usize, media: *mut f64, media_length: usize, ids: *mut u32, ids_length: usize
@@ -129,6 +126,15 @@ pub fn ade_coeffs(tag: u32, numbers: [f64; 3], eps0: f64, dt: f64, out: &mut [f6
     call!(cichowiej_ade_coeffs, tag, first, second, third, eps0, dt, mut out,)
 }
 
+/// What is put into the cells of a box.
+#[derive(Debug, Clone, Copy, PartialEq)]
+pub enum Put {
+    /// eps_r, mu_r and sigma; the ids stand.
+    Numbers([f64; 3]),
+    /// A material that was added, by its id.
+    Library(u32),
+}
+
 /// A study as its caller holds it: the block and the nine stores, in the order of the header's table. Each call answers the refusal's number; stores of
 /// other lengths than the sizes ask for are turned down.
 #[derive(Clone)]
@@ -179,21 +185,19 @@ impl Lent {
             mut self.tables, mut self.poles, mut self.aux, mut self.ids,)
     }
 
-    /// Cells are i0, i1, j0, j1, k0, k1; numbers eps_r, mu_r, sigma.
-    pub fn set_material(&mut self, cells: [usize; 6], numbers: [f64; 3]) -> u32 {
-        let ([i0, i1, j0, j1, k0, k1], [eps_r, mu_r, sigma]) = (cells, numbers);
-        call!(cichowiej_set_material, mut self.block, i0, i1, j0, j1, k0, k1, eps_r, mu_r, sigma,
-            mut self.media,)
-    }
-
     pub fn add_material(&mut self, material: &[u8], id: &mut [u32]) -> u32 {
         call!(cichowiej_add_material, mut self.block, ref material, mut id,)
     }
 
-    pub fn assign_material_box(&mut self, id: u32, cells: [usize; 6]) -> u32 {
-        let [i0, i1, j0, j1, k0, k1] = cells;
-        call!(cichowiej_assign_material_box, mut self.block, id, i0, i1, j0, j1, k0, k1,
-            mut self.media, mut self.ids,)
+    /// The box is i0, i1, j0, j1, k0, k1; numbers are eps_r, mu_r, sigma.
+    pub fn put_box(&mut self, range: [usize; 6], what: Put, cells: &mut [u32]) -> u32 {
+        let [i0, i1, j0, j1, k0, k1] = range;
+        let (library, id, [eps_r, mu_r, sigma]) = match what {
+            Put::Numbers(numbers) => (false, 0, numbers),
+            Put::Library(id) => (true, id, [0.0; 3]),
+        };
+        call!(cichowiej_put_box, mut self.block, i0, i1, j0, j1, k0, k1, library, id, eps_r, mu_r, sigma,
+            mut self.media, mut self.ids, mut cells,)
     }
 
     pub fn assign_material_halfspace_z(&mut self, id: u32, k0: usize) -> u32 {

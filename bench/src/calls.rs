@@ -2,8 +2,8 @@
 
 use crate::clock::{best_and_median, heading, seconds, shown};
 use compare::call::Call;
-use compare::engine::Study;
 use compare::engine::block::{MATERIALS, Material, PLACES, Pole};
+use compare::engine::{Put, Study};
 use compare::judge::FULL;
 
 const SIZES: [usize; 3] = [1, 1, 64];
@@ -77,6 +77,13 @@ pub fn print() {
     });
     line("add_material, refused: 16 stand", all, FULL, |study| {
         study.add_material(&bytes, &mut [0])
+    });
+    let (whole, last) = ([0, nx, 0, ny, 0, nz], Put::Library(all as u32 - 1));
+    line("put_box, three numbers into 64 cells", all, 0, |study| {
+        study.put_box(whole, Put::Numbers([2.0, 1.0, 0.5]), &mut [0])
+    });
+    line("put_box, a material into 64 cells", all, 0, |study| {
+        study.put_box(whole, last, &mut [0])
     });
     line("save_length", all, 0, |study| study.save_length(&mut [0]));
 }

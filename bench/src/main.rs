@@ -17,13 +17,17 @@ mod timing;
 
 use std::env;
 
-/// Everything, or with the word `saves` the saves alone.
+/// Everything, or with the word `calls` or `saves` these alone.
 fn main() {
-    if env::args().nth(1).as_deref() != Some("saves") {
-        steps();
-        calls::print();
+    match env::args().nth(1).as_deref() {
+        Some("calls") => calls::print(),
+        Some("saves") => saves::print(),
+        _ => {
+            steps();
+            calls::print();
+            saves::print();
+        }
     }
-    saves::print();
 }
 
 #[cfg(original)]

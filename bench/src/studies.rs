@@ -1,6 +1,7 @@
 //! The studies that are timed.
 
 use compare::call::{Call, Numbers};
+use compare::engine::Put;
 use compare::engine::block::{Material, Pole, Record, Region};
 use compare::fill::{Fill, Store};
 use compare::theirs::built_tables;
@@ -138,8 +139,8 @@ impl Timed {
             Call::SetPeriodic([true, true, false]),
             self.layer([false, false, true]),
             Call::AddMaterial(water),
-            Call::AssignBox {
-                id: 1,
+            Call::PutBox {
+                what: Put::Library(1),
                 cells: [0, nx, 0, ny, nz * 3 / 8, nz * 5 / 8],
             },
             Call::BuildDispersion,

@@ -69,12 +69,13 @@ static bool clock_kept(void)
 
 static void of_materials_and_dispersion(void)
 {
-    const cichowiej_media air = {1.5, 2.5, 3.5};
+    const cichowiej_put air = cichowiej_numbers(1.5, 2.5, 3.5);
     const cichowiej_material paper = plain(4.0, 0.0, 1.0);
-    CHECK(cichowiej_study_set_material(again(), 0, 2, 0, 2, 0, 2, air) == CICHOWIEJ_ACCEPTED && changed() == IN_MEDIA && clock_kept());
+    CHECK(cichowiej_study_put_box(again(), 0, 2, 0, 2, 0, 2, air, NULL) == CICHOWIEJ_ACCEPTED && changed() == IN_MEDIA && clock_kept());
     CHECK(cichowiej_study_add_material(again(), &paper, NULL) == CICHOWIEJ_ACCEPTED && changed() == 0 && clock_kept());
     CHECK(cichowiej_block_built_count(after_call.study.block) == 2);
-    CHECK(cichowiej_study_assign_material_box(again(), 1, 0, 2, 0, 2, 0, 2) == CICHOWIEJ_ACCEPTED && changed() == IN_MEDIA + IN_IDS);
+    CHECK(cichowiej_study_put_box(again(), 0, 2, 0, 2, 0, 2, cichowiej_library(1), NULL) == CICHOWIEJ_ACCEPTED
+          && changed() == IN_MEDIA + IN_IDS);
     CHECK(cichowiej_study_assign_material_halfspace_z(again(), 1, 3) == CICHOWIEJ_ACCEPTED && changed() == IN_MEDIA + IN_IDS);
     CHECK(cichowiej_study_build_dispersion(again()) == CICHOWIEJ_ACCEPTED && changed() == IN_POLES && clock_kept());
     CHECK(all_zero(after_call.study.stores.poles, after_call.study.stores.lengths.poles));

@@ -16,15 +16,15 @@ static bool cell_has(size_t cell, double eps_r, double mu_r, double sigma, uint3
 static void one_cell(void)
 {
     const cichowiej_material paper = plain(2.0, 3.0, 5.0);
-    const cichowiej_media air = {7.0, 11.0, 13.0};
+    const cichowiej_put air = cichowiej_numbers(7.0, 11.0, 13.0);
     const size_t at = cichowiej_cell(3, 4, 2, 3, 1), beside = cichowiej_cell(3, 4, 1, 2, 4);
     cichowiej_study *s = &sheet.study;
     size_t cell;
-    uint32_t id = 0;
+    uint32_t id = 0, cells = 9;
     open_held(&sheet, 3, 4, 5, 0);
     CHECK(cichowiej_study_add_material(s, &paper, &id) == CICHOWIEJ_ACCEPTED && id == 1);
-    CHECK(cichowiej_study_assign_material_box(s, id, 2, 3, 3, 4, 1, 2) == CICHOWIEJ_ACCEPTED);
-    CHECK(cichowiej_study_set_material(s, 1, 2, 2, 3, 4, 5, air) == CICHOWIEJ_ACCEPTED);
+    CHECK(cichowiej_study_put_box(s, 2, 3, 3, 4, 1, 2, cichowiej_library(id), &cells) == CICHOWIEJ_ACCEPTED && cells == 1);
+    CHECK(cichowiej_study_put_box(s, 1, 2, 2, 3, 4, 5, air, NULL) == CICHOWIEJ_ACCEPTED);
     for (cell = 0; cell < s->stores.lengths.ids; cell++)
         if (cell == at)
             CHECK(cell_has(cell, 2.0, 5.0, 3.0, 1));
@@ -39,20 +39,77 @@ static void ranges(void)
 {
     const cichowiej_material paper = plain(2.0, 3.0, 5.0);
     cichowiej_study *s = &sheet.study;
+    const cichowiej_put put = cichowiej_library(1);
     size_t cell;
+    uint32_t cells = 9;
     open_held(&sheet, 2, 2, 3, 0);
     CHECK(cichowiej_study_add_material(s, &paper, NULL) == CICHOWIEJ_ACCEPTED);
-    CHECK(cichowiej_study_assign_material_box(s, 1, 1, 1, 0, 2, 0, 3) == CICHOWIEJ_ACCEPTED);
-    CHECK(cichowiej_study_assign_material_box(s, 1, 0, 2, 1, 0, 0, 3) == CICHOWIEJ_ACCEPTED);
-    CHECK(cichowiej_study_assign_material_box(s, 1, 0, 2, 0, 2, 3, SIZE_MAX) == CICHOWIEJ_ACCEPTED);
+    CHECK(cichowiej_study_put_box(s, 1, 1, 0, 2, 0, 3, put, &cells) == CICHOWIEJ_ACCEPTED && cells == 0);
+    CHECK(cichowiej_study_put_box(s, 0, 2, 1, 0, 0, 3, put, &cells) == CICHOWIEJ_ACCEPTED && cells == 0);
+    CHECK(cichowiej_study_put_box(s, 0, 2, 0, 2, 3, SIZE_MAX, put, &cells) == CICHOWIEJ_ACCEPTED && cells == 0);
     for (cell = 0; cell < 12; cell++)
         CHECK(cell_has(cell, 1.0, 1.0, 0.0, 0));
     CHECK(cichowiej_study_assign_material_halfspace_z(s, 1, 2) == CICHOWIEJ_ACCEPTED);
     for (cell = 0; cell < 12; cell++)
         CHECK(cell < 8 ? cell_has(cell, 1.0, 1.0, 0.0, 0) : cell_has(cell, 2.0, 5.0, 3.0, 1));
-    CHECK(cichowiej_study_assign_material_box(s, 1, 0, SIZE_MAX, 0, SIZE_MAX, 0, SIZE_MAX) == CICHOWIEJ_ACCEPTED);
+    CHECK(cichowiej_study_put_box(s, 0, SIZE_MAX, 0, SIZE_MAX, 0, SIZE_MAX, put, &cells) == CICHOWIEJ_ACCEPTED && cells == 12);
     for (cell = 0; cell < 12; cell++)
         CHECK(cell_has(cell, 2.0, 5.0, 3.0, 1));
+}
+
+/* the call with everything named: three numbers or a material into i 1 to 9, j 0 to 2, k from 1 on, of 4x3x2 cells */
+static uint32_t put_six(bool library, uint32_t id, double number, uint32_t *cells)
+{
+    cichowiej_study *s = &sheet.study;
+    const cichowiej_stores *lent = &s->stores;
+    *cells = 9;
+    return cichowiej_put_box(s->block, CICHOWIEJ_BLOCK_LENGTH, 1, 9, 0, 2, 1, SIZE_MAX, library, id, number, number, number, lent->media,
+                             lent->lengths.media, lent->ids, lent->lengths.ids, cells, 1);
+}
+
+/* cells of the six that have these numbers and this id, and cells beside them that have not those of vacuum */
+static void six_have(double eps_r, double mu_r, double sigma, uint32_t id)
+{
+    size_t i, j, k;
+    for (k = 0; k < 2; k++)
+        for (j = 0; j < 3; j++)
+            for (i = 0; i < 4; i++)
+                if (i >= 1 && j < 2 && k == 1)
+                    CHECK(cell_has(cichowiej_cell(4, 3, i, j, k), eps_r, mu_r, sigma, id));
+                else
+                    CHECK(cell_has(cichowiej_cell(4, 3, i, j, k), 1.0, 1.0, 0.0, 0));
+}
+
+static double not_a_number(void)
+{
+    static const uint8_t bytes[8] = {0, 0, 0, 0, 0, 0, 0xF8, 0x7F};
+    return cichowiej_get_double(bytes);
+}
+
+/* what is not asked for is not looked at: an id that no material has with three numbers, numbers that are none with a material */
+static void what_is_put(void)
+{
+    const cichowiej_material paper = plain(2.0, 3.0, 5.0);
+    const cichowiej_put numbers = cichowiej_numbers(7.0, 11.0, 13.0), material = cichowiej_library(3);
+    uint32_t cells;
+    CHECK(!numbers.library && numbers.id == 0 && numbers.eps_r == 7.0 && numbers.mu_r == 11.0 && numbers.sigma == 13.0);
+    CHECK(material.library && material.id == 3 && material.eps_r == 0.0 && material.mu_r == 0.0 && material.sigma == 0.0);
+    open_held(&sheet, 4, 3, 2, 0);
+    CHECK(put_six(false, 4000000000u, 7.0, &cells) == CICHOWIEJ_ACCEPTED && cells == 6);
+    six_have(7.0, 7.0, 7.0, 0);
+    CHECK(put_six(true, 1, not_a_number(), &cells) == CICHOWIEJ_NO_SUCH_MATERIAL && cells == 0);
+    six_have(7.0, 7.0, 7.0, 0);
+    CHECK(cichowiej_study_add_material(&sheet.study, &paper, NULL) == CICHOWIEJ_ACCEPTED);
+    CHECK(put_six(true, 1, not_a_number(), &cells) == CICHOWIEJ_ACCEPTED && cells == 6);
+    six_have(2.0, 5.0, 3.0, 1);
+    CHECK(put_six(false, 0, 11.0, &cells) == CICHOWIEJ_ACCEPTED && cells == 6);
+    six_have(11.0, 11.0, 11.0, 1);
+    sheet.study.stores.lengths.ids--;
+    CHECK(put_six(false, 0, 13.0, &cells) == CICHOWIEJ_BAD_STORE && cells == 0);
+    CHECK(put_six(true, 2, 13.0, &cells) == CICHOWIEJ_BAD_STORE && cells == 0);
+    sheet.study.stores.lengths.ids++;
+    CHECK(put_six(true, 2, 13.0, &cells) == CICHOWIEJ_NO_SUCH_MATERIAL && cells == 0);
+    six_have(11.0, 11.0, 11.0, 1);
 }
 
 static bool same_pole(const cichowiej_pole *a, const cichowiej_pole *b)
@@ -112,6 +169,7 @@ void materials(void)
 {
     one_cell();
     ranges();
+    what_is_put();
     read_back();
     not_packed();
 }

@@ -33,12 +33,21 @@ static void no_stores(void)
     CHECK(cichowiej_study_step(&bare, 0.0) == CICHOWIEJ_BAD_STORE && cichowiej_study_reset_fields(&bare) == CICHOWIEJ_BAD_STORE);
 }
 
+/* air into all eight cells */
+static uint32_t put_air(uint32_t cells[2])
+{
+    cichowiej_study *s = &lent_to.study;
+    return cichowiej_put_box(s->block, sizeof s->block, 0, 2, 0, 2, 0, 2, false, 0, 1.0, 1.0, 0.0, s->stores.media, 24, s->stores.ids, 8, cells,
+                             2);
+}
+
 /* the first element alone is written, by a refused call with 0 */
 static void answers(void)
 {
     cichowiej_study *s = &lent_to.study;
     double two[2] = {77.0, 77.0};
     size_t lengths[2] = {77, 77};
+    uint32_t cells[2] = {77, 77};
     open_held(&lent_to, 2, 2, 2, 0);
     CHECK(cichowiej_plane_reading(s->block, sizeof s->block, 0, s->stores.e, 24, s->stores.h, 24, two, 2) == CICHOWIEJ_ACCEPTED);
     CHECK(two[0] == 0.0 && two[1] == 77.0);
@@ -46,6 +55,9 @@ static void answers(void)
     CHECK(cichowiej_plane_reading(s->block, sizeof s->block, 2, s->stores.e, 24, s->stores.h, 24, two, 2) == CICHOWIEJ_NO_SUCH_PLANE);
     CHECK(same_bits(two[0], 0.0) && two[1] == 77.0);
     CHECK(cichowiej_save_length(s->block, sizeof s->block, lengths, 2) == CICHOWIEJ_ACCEPTED && lengths[0] != 77 && lengths[1] == 77);
+    CHECK(put_air(cells) == CICHOWIEJ_ACCEPTED && cells[0] == 8 && cells[1] == 77);
+    s->block[CICHOWIEJ_AT_PERIODIC] = 2;
+    CHECK(put_air(cells) == CICHOWIEJ_BAD_STUDY && cells[0] == 0 && cells[1] == 77);
 }
 
 void pointers(void)

@@ -80,11 +80,11 @@ static void stores_before_the_calls_own(void)
     cichowiej_study *s = opened_whole();
     double reading;
     s->stores.lengths.media++;
-    CHECK(cichowiej_study_assign_material_box(s, 7, 0, 0, 0, 0, 0, 0) == CICHOWIEJ_BAD_STORE);
+    CHECK(cichowiej_study_put_box(s, 0, 0, 0, 0, 0, 0, cichowiej_library(7), NULL) == CICHOWIEJ_BAD_STORE);
     CHECK(cichowiej_study_set_boundary_lossy(s, 1, 9, 1.0) == CICHOWIEJ_BAD_STORE);
     CHECK(cichowiej_study_save(s, NULL, 0) == CICHOWIEJ_BAD_STORE);
     s->stores.lengths.media--;
-    CHECK(cichowiej_study_assign_material_box(s, 7, 0, 0, 0, 0, 0, 0) == CICHOWIEJ_NO_SUCH_MATERIAL);
+    CHECK(cichowiej_study_put_box(s, 0, 0, 0, 0, 0, 0, cichowiej_library(7), NULL) == CICHOWIEJ_NO_SUCH_MATERIAL);
     CHECK(cichowiej_study_set_boundary_lossy(s, 1, 9, 1.0) == CICHOWIEJ_BAD_ORDER);
     CHECK(cichowiej_study_save(s, NULL, 0) == CICHOWIEJ_NO_ROOM);
     s->stores.lengths.h++;

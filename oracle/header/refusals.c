@@ -27,14 +27,14 @@ static void of_materials(void)
 {
     cichowiej_study *s = refusing();
     cichowiej_material wet = debye(2.0, 3.0);
-    uint32_t id = 9, count;
+    uint32_t id = 9, cells = 9, count;
     wet.pole_count = 2;
     wet.poles[1] = wet.poles[0];
     CHECK(cichowiej_study_add_material(s, &wet, &id) == CICHOWIEJ_TOO_MANY_POLES && id == 0);
     wet.pole_count = 1;
-    CHECK(cichowiej_study_assign_material_box(s, 1, 0, 0, 0, 0, 0, 0) == CICHOWIEJ_NO_SUCH_MATERIAL);
+    CHECK(cichowiej_study_put_box(s, 0, 0, 0, 0, 0, 0, cichowiej_library(1), &cells) == CICHOWIEJ_NO_SUCH_MATERIAL && cells == 0);
     CHECK(cichowiej_study_add_material(s, &wet, &id) == CICHOWIEJ_ACCEPTED && id == 1);
-    CHECK(cichowiej_study_assign_material_box(s, 1, 0, 0, 0, 0, 0, 0) == CICHOWIEJ_ACCEPTED);
+    CHECK(cichowiej_study_put_box(s, 0, 0, 0, 0, 0, 0, cichowiej_library(1), NULL) == CICHOWIEJ_ACCEPTED);
     CHECK(cichowiej_study_build_dispersion(s) == CICHOWIEJ_ACCEPTED);
     CHECK(cichowiej_study_add_material(s, &wet, &id) == CICHOWIEJ_ACCEPTED && id == 2);
     CHECK(cichowiej_study_assign_material_halfspace_z(s, 1, 2) == CICHOWIEJ_ACCEPTED);

@@ -49,9 +49,9 @@ static double sigma_at(size_t i)
 /* the thickness is cut to half of the axis, and an axis of one cell or a periodic one has none: sigma then stays */
 static void lossy(void)
 {
-    const cichowiej_media wet = {1.0, 1.0, 0.75};
+    const cichowiej_put wet = cichowiej_numbers(1.0, 1.0, 0.75);
     open_held(&walled, 5, 1, 1, 0);
-    CHECK(cichowiej_study_set_material(&walled.study, 0, 5, 0, 1, 0, 1, wet) == CICHOWIEJ_ACCEPTED);
+    CHECK(cichowiej_study_put_box(&walled.study, 0, 5, 0, 1, 0, 1, wet, NULL) == CICHOWIEJ_ACCEPTED);
     CHECK(cichowiej_study_set_periodic(&walled.study, true, false, false) == CICHOWIEJ_ACCEPTED);
     CHECK(cichowiej_study_set_boundary_lossy(&walled.study, 2, 2, 8.0) == CICHOWIEJ_ACCEPTED && sigma_at(2) == 0.75);
     CHECK(cichowiej_study_set_periodic(&walled.study, false, false, false) == CICHOWIEJ_ACCEPTED);

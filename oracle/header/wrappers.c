@@ -22,12 +22,6 @@ static size_t save_taken_length;
 static cichowiej_material material_taken;
 static uint8_t bytes_taken[CICHOWIEJ_MATERIAL_LENGTH];
 
-static cichowiej_media some_media(void)
-{
-    const cichowiej_media media = {2.0, 3.0, 5.0};
-    return media;
-}
-
 /* a call in both forms: by its wrapper, and with the stores listed */
 #define BOTH(name, wrapped, listed)                                \
     static uint32_t wrapped_##name(cichowiej_study *s, answer *to) \
@@ -47,12 +41,12 @@ static cichowiej_media some_media(void)
 
 BOTH(open, cichowiej_study_open(s, 4, 5, 6, 1, CICHOWIEJ_CONSTANTS_2019, 1.5, 2.5, 3.5, 4.5),
      cichowiej_open(BLOCK, 4, 5, 6, 1, CICHOWIEJ_CONSTANTS_2019, 1.5, 2.5, 3.5, 4.5, ALL))
-BOTH(set_material, cichowiej_study_set_material(s, 0, 1, 1, 3, 2, 5, some_media()),
-     cichowiej_set_material(BLOCK, 0, 1, 1, 3, 2, 5, 2.0, 3.0, 5.0, LENT(media)))
+BOTH(put_numbers, cichowiej_study_put_box(s, 0, 1, 1, 3, 2, 5, cichowiej_numbers(2.0, 3.0, 5.0), &to->number),
+     cichowiej_put_box(BLOCK, 0, 1, 1, 3, 2, 5, false, 0, 2.0, 3.0, 5.0, LENT(media), LENT(ids), &to->number, 1))
 BOTH(add_material, cichowiej_study_add_material(s, &material_taken, &to->number),
      cichowiej_add_material(BLOCK, bytes_taken, CICHOWIEJ_MATERIAL_LENGTH, &to->number, 1))
-BOTH(assign_box, cichowiej_study_assign_material_box(s, 1, 0, 1, 1, 3, 2, 5),
-     cichowiej_assign_material_box(BLOCK, 1, 0, 1, 1, 3, 2, 5, LENT(media), LENT(ids)))
+BOTH(put_library, cichowiej_study_put_box(s, 0, 1, 1, 3, 2, 5, cichowiej_library(1), &to->number),
+     cichowiej_put_box(BLOCK, 0, 1, 1, 3, 2, 5, true, 1, 0.0, 0.0, 0.0, LENT(media), LENT(ids), &to->number, 1))
 BOTH(assign_halfspace, cichowiej_study_assign_material_halfspace_z(s, 1, 4),
      cichowiej_assign_material_halfspace_z(BLOCK, 1, 4, LENT(media), LENT(ids)))
 BOTH(build, cichowiej_study_build_dispersion(s), cichowiej_build_dispersion(BLOCK, LENT(poles)))
@@ -80,9 +74,9 @@ static const struct {
     unsigned lent;
 } calls[] = {
     {wrapped_open, listed_open, 0x1FF},
-    {wrapped_set_material, listed_set_material, 0x004},
+    {wrapped_put_numbers, listed_put_numbers, 0x104},
     {wrapped_add_material, listed_add_material, 0},
-    {wrapped_assign_box, listed_assign_box, 0x104},
+    {wrapped_put_library, listed_put_library, 0x104},
     {wrapped_assign_halfspace, listed_assign_halfspace, 0x104},
     {wrapped_build, listed_build, 0x040},
     {wrapped_set_periodic, listed_set_periodic, 0},

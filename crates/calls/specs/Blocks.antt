@@ -1,9 +1,10 @@
 -- What a C function comes to: the call on the record that the caller's block holds. Definitions only.
 use Prim.Native.Nat.{ℕ, _+_}
-use mathlib.Core.Bool.{Bool, false, cond}
+use mathlib.Core.Bool.{Bool, true, false, cond}
 use mathlib.Core.List.{List}
 use lib.Dec.{eqb}
 use lib.ListN.{length, getD, set}
+use lib.Ieee.{Float}
 use Rattle.root.specs.declared.Spacings.{Spacings}
 use Rattle.dispersion.specs.declared.DispersiveMaterial.{DispersiveMaterial}
 use Rattle.grid.specs.declared.Clock.{Clock}
@@ -13,7 +14,9 @@ use Rattle.grid.specs.Stores.{Stores, Outcome, outcome, settle, orElse, badStor
 use Rattle.opening.specs.Opening.{openRecord, openStores}
 use Rattle.opening.specs.Layer.{Layer}
 use Rattle.cpml.specs.Absorber.{Absorbed}
-use Rattle.materials.specs.Materials.{addFault, added}
+use Rattle.materials.specs.declared.Put.{Put}
+use Rattle.materials.specs.declared.Put.the-variants.{Numbers, Library}
+use Rattle.materials.specs.Materials.{addFault, added, Placed, Filled}
 use Rattle.heads.specs.Numbers.{mlLength, mlShaped, mlOf}
 use Rattle.heads.specs.Payloads.{entryOf}
 use Rattle.block.specs.Block.{blockLength, blockFine, blockRecord, blockOf, clockPut}
@@ -93,6 +96,22 @@ addBytesFault m r = orElse (faultOf r) (orElse (materialFault m) (addFault r (ma
 
 unfoldable pub addBytesCall : (material : List ℕ) → Record → Outcome ℕ
 addBytesCall m r = settle (addBytesFault m r) r 0 (added r (materialOf m)) (r .«material_count»)
+
+-- ---- what is put into a box, as C names it: what is not asked for is not looked at
+abbrev pub asked : (library : Bool) → (id : ℕ) → (eps mu sigma : Float) → Put
+asked true id eps mu sigma = Library id
+asked false id eps mu sigma = Numbers eps mu sigma
+
+-- both stores, and the number of cells in the room lent for it
+pub record Told : Type 0 where
+  pub cells : List ℕ
+  pub stores : Placed
+
+abbrev pub told : List ℕ → Placed → Told
+told n s = record { cells = n; stores = s }
+
+abbrev pub telling : Outcome Filled → List ℕ → Outcome Told
+telling o room = outcome (o .refusal) (o .study) (told (answered (o .rest .cells) room) (o .rest .stores))
 
 -- ---- which axes the layer is active on, as one number
 abbrev pub axisBits : List Bool → ℕ

@@ -4,7 +4,7 @@ ghost use mathlib.Core.Path.{_≡_};
 ghost use Prim.Native.Nat.{_≤_};
 ghost use lib.ListN.{length};
 ghost use Rattle.block.specs.Block.{blockLength};
-ghost use Rattle.calls.specs.Blocks.{blockAfter, clockAfter, answered, axisBits, materialFault, materialOf};
+ghost use Rattle.calls.specs.Blocks.{blockAfter, clockAfter, answered, axisBits, materialFault, materialOf, asked};
 use dispersion::DispersiveMaterial;
 use grid::Clock;
 use grid::Record;
@@ -12,6 +12,7 @@ use grid::fault;
 use grid::fault::BAD_STUDY;
 use grid::stores::BAD_STORE;
 use heads::ML_LENGTH;
+use materials::Put;
 
 // The record that a call answered goes into the block where the call was accepted.
 pub fn keep(b: &mut [u8], refusal: u32, study: Record)
@@ -85,4 +86,14 @@ pub fn get_material(m: &[u8]) -> DispersiveMaterial
 {
     let n = reads::get_ml(m, 0);
     heads::ml_of(n)
+}
+
+// What is put into a box, as a C caller names it.
+pub fn put_asked(library: bool, id: u32, eps_r: f64, mu_r: f64, sigma: f64) -> Put
+    ensures { λ p. ⌜ p ≡ asked library id «eps_r» «mu_r» sigma ⌝ }
+{
+    if library {
+        return Put::Library { id };
+    }
+    Put::Numbers { eps_r, mu_r, sigma }
 }

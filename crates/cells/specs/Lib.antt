@@ -2,4 +2,5 @@
 pub mod Cells
 pub mod Reading
 pub mod Box
+pub mod Counted
 pub mod Inner

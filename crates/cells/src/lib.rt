@@ -1,7 +1,9 @@
 // A box of cells of one store set to one value, f64 and u32. The proofs of both cite the same laws, over the element type.
 ghost use mathlib.Core.Path.{_≡_};
-ghost use Prim.Native.Nat.{_+_, _*_, _≤_};
+ghost use Prim.Native.Nat.{_+_, _*_, _≤_, min};
 ghost use lib.ListN.{length};
+ghost use Rattle.cells.specs.Box.{boxCells};
+ghost use Rattle.cells.specs.Counted.{cut};
 ghost use Rattle.cells.specs.Inner.Blocks.{Ends, on, setRow, setPlane, setBox};
 // Cells by half-open ranges of indices: i0 up to i1, and so on.
 pub struct IndexBox {
@@ -98,4 +100,38 @@ pub fn fill_box_ids(s: &mut [u32], at: usize, nx: usize, ny: usize, nz: usize, b
         fill_plane_ids(s, at + k * plane, nx, ny, b, v);
         k += 1;
     }
+}
+
+// ---- how many cells a box has
+
+fn lesser(a: usize, b: usize) -> usize
+    ensures { λ r. ⌜ r ≡ min a b ⌝ }
+{
+    if a < b { a } else { b }
+}
+
+// Of the numbers from a up to e, those below n. They are cut before anything is multiplied, so that nothing wraps.
+fn cut_to(a: usize, e: usize, n: usize) -> usize
+    ensures { λ r. ⌜ (r ≡ cut a e n) × (r ≤ n) ⌝ }
+{
+    let end = lesser(e, n);
+    if a < end { end - a } else { 0 }
+}
+
+fn times(a: usize, b: usize, m: usize, n: usize) -> usize
+    requires { ⌜ (a ≤ m) × (b ≤ n) × (m * n ≤ 1048576) ⌝ }
+    ensures { λ r. ⌜ (r ≡ a * b) × (r ≤ m * n) ⌝ }
+{
+    a * b
+}
+
+pub fn box_cells(nx: usize, ny: usize, nz: usize, b: IndexBox) -> u32
+    requires { ⌜ (ny * nx ≤ 262144) × (nz * (ny * nx) ≤ 1048576) ⌝ }
+    ensures { λ r. ⌜ r ≡ boxCells nx ny nz b ⌝ }
+{
+    let x = cut_to(b.i0, b.i1, nx);
+    let y = cut_to(b.j0, b.j1, ny);
+    let z = cut_to(b.k0, b.k1, nz);
+    let plane = times(y, x, ny, nx);
+    times(z, plane, nz, ny * nx) as u32
 }

@@ -1,9 +1,9 @@
 -- The cell numbers after a box was set in each of the store's three parts, and what the calls may lean on. Assumes nothing.
-use Prim.Native.Nat.{ℕ, _+_, _*_, _≤_, _<_}
+use Prim.Native.Nat.{ℕ, zero, suc, _+_, _*_, _≤_, _<_}
 use native.Mathlib.Nat.{zero-mul, one-mul, mul-comm}
 use native.Mathlib.Omega.{arith}
-use mathlib.Core.Path.{_≡_, sym, ap, _∙_}
-use mathlib.Core.Bool.{cond}
+use mathlib.Core.Path.{_≡_, refl, sym, ap, _∙_}
+use mathlib.Core.Bool.{true, cond}
 use mathlib.Core.List.{List}
 use lib.ListN.{length, getD}
 use lib.Seq.{take-all}
@@ -17,10 +17,13 @@ use Rattle.cells.specs.Cells.{cellwise, cellIndex, components}
 use Rattle.cells.specs.Reading.{block-end}
 use Rattle.cells.specs.Inner.Blocks.{on, inBlocks, setBox}
 use Rattle.cells.specs.Box.{inBox, within}
-use Rattle.materials.specs.Materials.{mediumAt, mediaSet, idsSet, mediaFault, assignFault, Placed, placed, materialAt, assigned}
+use Rattle.materials.specs.Materials.{mediumAt, mediaSet, idsSet, Placed, placed, materialAt, assigned, isKnown, putInto, putFault, filled, putBoxCall, halfspace, uncounted, halfspaceCall}
+use Rattle.materials.specs.Inner.Fillable.{Fillable}
+use Rattle.materials.specs.declared.Put.{Put}
+use Rattle.materials.specs.declared.Put.the-variants.{Numbers, Library}
 use Rattle.grid.specs.declared.Record.{Record}
 use Rattle.grid.specs.Inner.Sound.{Sound}
-use Rattle.grid.specs.Stores.{storeLengths}
+use Rattle.grid.specs.Stores.{storeLengths, outcome, settle}
 use Rattle.grid.proofs.Tests.{and-left, and-right, first-none, or-none}
 use Rattle.grid.proofs.Settled.{lent-none}
 use Rattle.cells.proofs.Blocks.{joined-same}
@@ -101,39 +104,39 @@ ids-set nx ny nz b id s e =
 sizes-of : (r : Record) → Sound r → (r .ny * r .nx ≤ 262144) × (r .nz * (r .ny * r .nx) ≤ 1048576)
 sizes-of r s = (omega (arith, s .plane, mul-comm (r .nx) (r .ny)), omega (arith, s .cells, cells-same (r .nx) (r .ny) (r .nz)))
 
-pub media-none : (r : Record) (n : ℕ) → mediaFault r n ≡ 0 →
-    (r .ny * r .nx ≤ 262144) × (r .nz * (r .ny * r .nx) ≤ 1048576) × (n ≡ 3 * (r .nz * (r .ny * r .nx)))
-unfolding mediaFault storeLengths
-media-none r n e =
-    let h = lent-none r _ e in
-    let s = sizes-of r (h .0) in
-    (s .0, s .1, omega (arith, eqb-true n (3 * (r .nx * r .ny * r .nz)) (h .1), cells-same (r .nx) (r .ny) (r .nz)))
-
-pub record Placeable (r : Record) (media ids id : ℕ) : Type 0 where
-  pub plane : r .ny * r .nx ≤ 262144
-  pub grid : r .nz * (r .ny * r .nx) ≤ 1048576
-  pub numbers : media ≡ 3 * (r .nz * (r .ny * r .nx))
-  pub places : ids ≡ r .nz * (r .ny * r .nx)
-  pub known : id < 16
-
-pub assign-none : (r : Record) (media ids id : ℕ) → assignFault r media ids id ≡ 0 → Placeable r media ids id
-unfolding assignFault storeLengths
-assign-none r media ids id e =
+pub fillable : (r : Record) (media ids : ℕ) (what : Put) → putFault r media ids what ≡ 0 → Fillable r media ids × (isKnown r what ≡ true)
+unfolding putFault storeLengths
+fillable r media ids what e =
     let h = or-none _ _ e in
     let l = lent-none r _ (h .0) in
     let s = sizes-of r (l .0) in
-    let there = ltb-true id (r .«material_count») (first-none (ltb id (r .«material_count»)) 6 0 (h .1) .0) in
     let mediaFit = eqb media (3 * (r .nx * r .ny * r .nz)) in
     let idsFit = eqb ids (r .nx * r .ny * r .nz) in
     let m = eqb-true media (3 * (r .nx * r .ny * r .nz)) (and-left mediaFit idsFit (l .1)) in
-    let i = eqb-true ids (r .nx * r .ny * r .nz) (and-right mediaFit idsFit (l .1)) in
-    record {
-      plane = s .0;
-      grid = s .1;
-      numbers = omega (arith, m, cells-same (r .nx) (r .ny) (r .nz));
-      places = omega (arith, i, cells-same (r .nx) (r .ny) (r .nz));
-      known = omega (arith, there, l .0 .materials);
-    }
+    let i = eqb-true ids (r .nx * r .ny * r .nz) (and-right mediaFit idsFit (l .1)) in (
+      record {
+        plane = s .0;
+        grid = s .1;
+        numbers = omega (arith, m, cells-same (r .nx) (r .ny) (r .nz));
+        places = omega (arith, i, cells-same (r .nx) (r .ny) (r .nz));
+        materials = omega (arith, l .0 .materials);
+      },
+      first-none (isKnown r what) 6 0 (h .1) .0,
+    )
+
+-- a registered material is one of sixteen
+pub known-below : (r : Record) (id media ids : ℕ) → Fillable r media ids → isKnown r (Library id) ≡ true → id < 16
+unfolding isKnown
+known-below r id media ids f e = let l : id < r .«material_count» = ltb-true id (r .«material_count») e in omega (arith, f .materials)
+
+-- the count left out
+pub uncounted-of : (n : ℕ) (q r : Record) (id k0 c : ℕ) (s s' : Placed) → outcome n q (filled s' c) ≡ putBoxCall r (halfspace r k0) (Library id) s → outcome n q s' ≡ halfspaceCall r id k0 s
+unfolding halfspaceCall
+uncounted-of n q r id k0 c s s' e = ap uncounted e
+
+pub uncounted-settled : (f : ℕ) (r : Record) (s s' : Placed) (c : ℕ) → uncounted (settle f r (filled s 0) r (filled s' c)) ≡ settle f r s r s'
+uncounted-settled zero r s s' c = refl
+uncounted-settled (suc f) r s s' c = refl
 
 -- both stores after a material was placed
 pub assigned-are : (r : Record) (b : IndexBox) (id : ℕ) (s : Placed) (m : List Float) (i : List ℕ) → length (s .ids) ≡ r .nz * (r .ny * r .nx) →
@@ -141,3 +144,13 @@ pub assigned-are : (r : Record) (b : IndexBox) (id : ℕ) (s : Placed) (m : List
     i ≡ on 0 (r .nz * (r .ny * r .nx)) (setBox (r .nx) (r .ny) (r .nz) b id) (s .ids) → placed m i ≡ assigned r b id s
 unfolding assigned
 assigned-are r b id s m i n p q = rw (p, q, ids-set (r .nx) (r .ny) (r .nz) b id (s .ids) n)
+
+-- and after a box was filled with what was asked for
+pub numbers-put : (r : Record) (b : IndexBox) (what : Put) (eps mu sigma : Float) (s : Placed) (m : List Float) → what ≡ Numbers eps mu sigma →
+    m ≡ mediaSet (r .nx) (r .ny) (r .nz) b (mediumAt eps mu sigma) (s .media) → placed m (s .ids) ≡ putInto r b what s
+unfolding putInto
+numbers-put r b what eps mu sigma s m w e = rw (w, e) refl
+
+pub material-put : (r : Record) (b : IndexBox) (what : Put) (id : ℕ) (s p : Placed) → what ≡ Library id → p ≡ assigned r b id s → p ≡ putInto r b what s
+unfolding putInto
+material-put r b what id s p w e = rw (w, e) refl

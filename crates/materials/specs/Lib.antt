@@ -1,2 +1,3 @@
 -- What the contracts of materials cite.
 pub mod Materials
+pub mod Inner

@@ -1,12 +1,13 @@
 // Materials added to the record, placed in boxes of cells, and built.
 ghost use mathlib.Core.Path.{_≡_};
-ghost use mathlib.Core.Bool.{cond};
-ghost use Prim.Native.Nat.{_*_, _≤_};
+ghost use mathlib.Core.Bool.{true, cond};
+ghost use Prim.Native.Nat.{_*_, _≤_, _<_};
 ghost use lib.ListN.{length};
 ghost use Rattle.dispersion.specs.Material.{blankSlot};
 ghost use Rattle.grid.specs.Canon.{canonMaterial};
 ghost use Rattle.grid.specs.Stores.{outcome};
-ghost use Rattle.materials.specs.Materials.{mediumAt, mediaSet, setMaterialCall, assignFault, assignBoxCall, placed, halfspace, anyPole, builtOf, buildCall, addFault, addCall};
+ghost use Rattle.materials.specs.Inner.Fillable.{Fillable};
+ghost use Rattle.materials.specs.Materials.{mediumAt, mediaSet, placed, assigned, isKnown, putInto, putFault, filled, putBoxCall, halfspaceCall, anyPole, builtOf, buildCall, addFault, addCall};
 use cells::IndexBox;
 use dispersion::DispersiveMaterial;
 use dispersion::PoleSlot;
@@ -26,6 +27,19 @@ pub struct Added {
     pub refusal: u32,
     pub study: Record,
     pub id: u32,
+}
+
+// What is put into a box: three numbers, or a registered material.
+pub enum Put {
+    Numbers { eps_r: f64, mu_r: f64, sigma: f64 },
+    Library { id: u32 },
+}
+
+// The refusal, the record, and how many cells were set.
+pub struct Counted {
+    pub refusal: u32,
+    pub study: Record,
+    pub cells: u32,
 }
 
 // Three numbers in each cell of a box.
@@ -48,70 +62,71 @@ fn set_media(
     cells::fill_box(media, 2 * n, nx, ny, nz, b, sigma);
 }
 
-// Three numbers in each cell of a box; the ids are left.
-pub fn set_material(
-    r: Record,
-    b: IndexBox,
-    eps_r: f64,
-    mu_r: f64,
-    sigma: f64,
-    media: &mut [f64],
-) -> Answer
-    ensures { λ o. ⌜ outcome (o .refusal) (o .study) (now (media .exit)) ≡ setMaterialCall r b «eps_r» «mu_r» sigma (now (media .entry)) ⌝ }
+fn is_known(r: Record, what: Put) -> bool
+    ensures { λ t. ⌜ t ≡ isKnown r what ⌝ }
 {
-    let j = stores::judge(r);
-    let f = stores::lent_fault(j.refusal, media.len() == j.lengths.media);
-    if f != 0 {
-        return Answer {
-            refusal: f,
-            study: r,
-        };
-    }
-    set_media(media, r.nx, r.ny, r.nz, b, eps_r, mu_r, sigma);
-    Answer {
-        refusal: 0,
-        study: r,
+    match what {
+        Put::Numbers { .. } => true,
+        Put::Library { id } => (id as usize) < r.material_count,
     }
 }
 
-fn assign_fault(r: Record, media: usize, ids: usize, id: u32) -> u32
-    ensures { λ n. ⌜ n ≡ assignFault r media ids id ⌝ }
+fn put_fault(r: Record, media: usize, ids: usize, what: Put) -> u32
+    ensures { λ n. ⌜ n ≡ putFault r media ids what ⌝ }
 {
     let j = stores::judge(r);
     let l = j.lengths;
     let f = stores::lent_fault(j.refusal, (media == l.media) & (ids == l.ids));
-    let known = (id as usize) < r.material_count;
-    stores::or_else(f, fault::first_fault(known, NO_SUCH_MATERIAL, 0))
+    stores::or_else(
+        f,
+        fault::first_fault(is_known(r, what), NO_SUCH_MATERIAL, 0),
+    )
 }
 
 // A registered material's numbers and its id in each cell of a box.
-pub fn assign_material_box(
-    r: Record,
-    id: u32,
-    b: IndexBox,
-    media: &mut [f64],
-    ids: &mut [u32],
-) -> Answer
-    ensures { λ o. ⌜ outcome (o .refusal) (o .study) (placed (now (media .exit)) (now (ids .exit))) ≡ assignBoxCall r id b (placed (now (media .entry)) (now (ids .entry))) ⌝ }
+fn put_material(r: Record, b: IndexBox, id: u32, media: &mut [f64], ids: &mut [u32])
+    requires { ⌜ Fillable r (length (now media)) (length (now ids)) × (id < 16) ⌝ }
+    ensures { λ _. ⌜ placed (now (media .exit)) (now (ids .exit)) ≡ assigned r b id (placed (now (media .entry)) (now (ids .entry))) ⌝ }
 {
-    let f = assign_fault(r, media.len(), ids.len(), id);
-    if f != 0 {
-        return Answer {
-            refusal: f,
-            study: r,
-        };
-    }
     let at = id as usize;
     let m = r.materials[at];
     set_media(media, r.nx, r.ny, r.nz, b, m.eps_inf, m.mu_r, m.sigma);
     cells::fill_box_ids(ids, 0, r.nx, r.ny, r.nz, b, id);
-    Answer {
-        refusal: 0,
-        study: r,
+}
+
+fn put_into(r: Record, b: IndexBox, what: Put, media: &mut [f64], ids: &mut [u32])
+    requires { ⌜ Fillable r (length (now media)) (length (now ids)) × (isKnown r what ≡ true) ⌝ }
+    ensures { λ _. ⌜ placed (now (media .exit)) (now (ids .exit)) ≡ putInto r b what (placed (now (media .entry)) (now (ids .entry))) ⌝ }
+{
+    match what {
+        Put::Numbers { eps_r, mu_r, sigma } => {
+            set_media(media, r.nx, r.ny, r.nz, b, eps_r, mu_r, sigma)
+        }
+        Put::Library { id } => put_material(r, b, id, media, ids),
     }
 }
 
-// The same for every cell from plane k0 on.
+// Puts what is asked for into each cell of a box, and answers how many cells it has. Where three numbers are put, the ids stand.
+pub fn put_box(r: Record, b: IndexBox, what: Put, media: &mut [f64], ids: &mut [u32]) -> Counted
+    ensures { λ o. ⌜ outcome (o .refusal) (o .study) (filled (placed (now (media .exit)) (now (ids .exit))) (o .cells)) ≡ putBoxCall r b what (placed (now (media .entry)) (now (ids .entry))) ⌝ }
+{
+    let f = put_fault(r, media.len(), ids.len(), what);
+    if f != 0 {
+        return Counted {
+            refusal: f,
+            study: r,
+            cells: 0,
+        };
+    }
+    put_into(r, b, what, media, ids);
+    Counted {
+        refusal: 0,
+        study: r,
+        cells: cells::box_cells(r.nx, r.ny, r.nz, b),
+    }
+}
+
+// A registered material in every cell from plane k0 on.
 pub fn assign_material_halfspace_z(
     r: Record,
     id: u32,
@@ -119,7 +134,7 @@ pub fn assign_material_halfspace_z(
     media: &mut [f64],
     ids: &mut [u32],
 ) -> Answer
-    ensures { λ o. ⌜ outcome (o .refusal) (o .study) (placed (now (media .exit)) (now (ids .exit))) ≡ assignBoxCall r id (halfspace r k0) (placed (now (media .entry)) (now (ids .entry))) ⌝ }
+    ensures { λ o. ⌜ outcome (o .refusal) (o .study) (placed (now (media .exit)) (now (ids .exit))) ≡ halfspaceCall r id k0 (placed (now (media .entry)) (now (ids .entry))) ⌝ }
 {
     let b = IndexBox {
         i0: 0,
@@ -129,7 +144,13 @@ pub fn assign_material_halfspace_z(
         k0,
         k1: r.nz,
     };
-    assign_material_box(r, id, b, media, ids)
+    let what = Put::Library { id };
+    let o = put_box(r, b, what, media, ids);
+    let study = o.study;
+    Answer {
+        refusal: o.refusal,
+        study,
+    }
 }
 
 // Whether a counted material has a pole.

@@ -15,12 +15,14 @@ use Rattle.grid.proofs.Settled.{turned-down}
 use Rattle.grid.proofs.Tests.{or-none, or-stays}
 use Rattle.opening.specs.Opening.{openRecord, openStores, openCall}
 use Rattle.opening.specs.Layer.{Layer}
-use Rattle.materials.specs.Materials.{addFault, addCall}
+use Rattle.materials.specs.Materials.{addFault, addCall, Placed, Filled, filled, putBoxCall}
+use Rattle.materials.specs.declared.Put.{Put}
+use Rattle.cells.specs.declared.IndexBox.{IndexBox}
 use Rattle.cpml.specs.Absorber.{Absorbed, absorbed}
 use Rattle.block.specs.Block.{blockLength, blockFine, blockRecord}
 use Rattle.format.specs.Rewind.{readRecord, readStores, bytesFault, rewindFault, rewindCall}
 use Rattle.calls.proofs.Kept.{kept-old}
-use Rattle.calls.specs.Blocks.{sent, blockAfter, passed, onBlock, clockAfter, clockPassed, clockOnBlock, lentBlock, openOnBlock, rewindOnBlock, answered, materialFault, materialOf, addBytesFault, addBytesCall, axisBits, Named, named, naming}
+use Rattle.calls.specs.Blocks.{sent, blockAfter, passed, onBlock, clockAfter, clockPassed, clockOnBlock, lentBlock, openOnBlock, rewindOnBlock, answered, materialFault, materialOf, addBytesFault, addBytesCall, Told, told, telling, axisBits, Named, named, naming}
 
 -- ---- the call
 module _ {A : Type 0} (f : Record → Outcome A) (b : List ℕ) (kept : A) where
@@ -127,3 +129,13 @@ naming-of {n} {k} {q} {axes} {s} {o} room eo ek ea =
 pub unnamed : (f : Record → Outcome Named) (b room : List ℕ) {room' : List ℕ} {s : Layer} → blockFine b ≡ false → room' ≡ answered 0 room
     → sent badStudy b (named room' s) ≡ onBlock f b (named (answered 0 room) s)
 unnamed f b room {room'} {s} h e = ill-kept f b (named (answered 0 room) s) h (ap (λ (x : List ℕ). named x s) e)
+
+-- ---- a box, its cells counted
+pub telling-of : {n k : ℕ} {q : Record} {s' : Placed} (r : Record) (box : IndexBox) {what asked : Put} (s : Placed) (room : List ℕ) {room' : List ℕ} → outcome n q (filled s' k) ≡ putBoxCall r box what s → what ≡ asked → room' ≡ answered k room
+    → outcome n q (told room' s') ≡ telling (putBoxCall r box asked s) room
+telling-of {n} {k} {q} {s'} r box s room eo ew ea =
+    ap (λ (x : List ℕ). outcome n q (told x s')) ea ∙ ap (λ (o : Outcome Filled). telling o room) (eo ∙ ap (λ (w : Put). putBoxCall r box w s) ew)
+
+pub untold : (f : Record → Outcome Told) (b room : List ℕ) {room' : List ℕ} {s : Placed} → blockFine b ≡ false → room' ≡ answered 0 room
+    → sent badStudy b (told room' s) ≡ onBlock f b (told (answered 0 room) s)
+untold f b room {room'} {s} h e = ill-kept f b (told (answered 0 room) s) h (ap (λ (x : List ℕ). told x s) e)

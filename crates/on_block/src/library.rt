@@ -1,8 +1,8 @@
 // Materials: added to the study, placed in its cells, and built.
 ghost use mathlib.Core.Path.{_≡_};
 ghost use Rattle.grid.specs.Stores.{outcome};
-ghost use Rattle.materials.specs.Materials.{setMaterialCall, assignBoxCall, placed, halfspace, buildCall};
-ghost use Rattle.calls.specs.Blocks.{sent, onBlock, answered, answering, addBytesCall};
+ghost use Rattle.materials.specs.Materials.{placed, putBoxCall, halfspaceCall, buildCall};
+ghost use Rattle.calls.specs.Blocks.{sent, onBlock, answered, answering, addBytesCall, asked, told, telling};
 use calls::blocks;
 use cells::IndexBox;
 use grid::Record;
@@ -11,7 +11,8 @@ use grid::fault::BAD_STUDY;
 use grid::stores;
 use materials::Added;
 
-pub fn set_material(
+// What is put is three numbers or, where `library` is true, the material with this id; how many cells the box has goes into the room lent for it.
+pub fn put_box(
     b: &mut [u8],
     i0: usize,
     i1: usize,
@@ -19,14 +20,19 @@ pub fn set_material(
     j1: usize,
     k0: usize,
     k1: usize,
+    library: bool,
+    id: u32,
     eps_r: f64,
     mu_r: f64,
     sigma: f64,
     media: &mut [f64],
+    ids: &mut [u32],
+    cells: &mut [u32],
 ) -> u32
-    ensures { λ n. ⌜ sent n (now (b .exit)) (now (media .exit)) ≡ onBlock (λ r. setMaterialCall r (record { i0 = i0; i1 = i1; j0 = j0; j1 = j1; k0 = k0; k1 = k1 }) «eps_r» «mu_r» sigma (now (media .entry))) (now (b .entry)) (now (media .entry)) ⌝ }
+    ensures { λ n. ⌜ sent n (now (b .exit)) (told (now (cells .exit)) (placed (now (media .exit)) (now (ids .exit)))) ≡ onBlock (λ r. telling (putBoxCall r (record { i0 = i0; i1 = i1; j0 = j0; j1 = j1; k0 = k0; k1 = k1 }) (asked library id «eps_r» «mu_r» sigma) (placed (now (media .entry)) (now (ids .entry)))) (now (cells .entry))) (now (b .entry)) (told (answered 0 (now (cells .entry))) (placed (now (media .entry)) (now (ids .entry)))) ⌝ }
 {
     if !block::is_record(b) {
+        blocks::answer_number(cells, 0);
         return BAD_STUDY;
     }
     let r = block::get_record(b);
@@ -38,7 +44,9 @@ pub fn set_material(
         k0,
         k1,
     };
-    let o = materials::set_material(r, g, eps_r, mu_r, sigma, media);
+    let what = blocks::put_asked(library, id, eps_r, mu_r, sigma);
+    let o = materials::put_box(r, g, what, media, ids);
+    blocks::answer_number(cells, o.cells);
     blocks::keep(b, o.refusal, o.study);
     o.refusal
 }
@@ -72,37 +80,6 @@ pub fn add_material(b: &mut [u8], material: &[u8], id: &mut [u32]) -> u32
     o.refusal
 }
 
-pub fn assign_material_box(
-    b: &mut [u8],
-    id: u32,
-    i0: usize,
-    i1: usize,
-    j0: usize,
-    j1: usize,
-    k0: usize,
-    k1: usize,
-    media: &mut [f64],
-    ids: &mut [u32],
-) -> u32
-    ensures { λ n. ⌜ sent n (now (b .exit)) (placed (now (media .exit)) (now (ids .exit))) ≡ onBlock (λ r. assignBoxCall r id (record { i0 = i0; i1 = i1; j0 = j0; j1 = j1; k0 = k0; k1 = k1 }) (placed (now (media .entry)) (now (ids .entry)))) (now (b .entry)) (placed (now (media .entry)) (now (ids .entry))) ⌝ }
-{
-    if !block::is_record(b) {
-        return BAD_STUDY;
-    }
-    let r = block::get_record(b);
-    let g = IndexBox {
-        i0,
-        i1,
-        j0,
-        j1,
-        k0,
-        k1,
-    };
-    let o = materials::assign_material_box(r, id, g, media, ids);
-    blocks::keep(b, o.refusal, o.study);
-    o.refusal
-}
-
 pub fn assign_material_halfspace_z(
     b: &mut [u8],
     id: u32,
@@ -110,7 +87,7 @@ pub fn assign_material_halfspace_z(
     media: &mut [f64],
     ids: &mut [u32],
 ) -> u32
-    ensures { λ n. ⌜ sent n (now (b .exit)) (placed (now (media .exit)) (now (ids .exit))) ≡ onBlock (λ r. assignBoxCall r id (halfspace r k0) (placed (now (media .entry)) (now (ids .entry)))) (now (b .entry)) (placed (now (media .entry)) (now (ids .entry))) ⌝ }
+    ensures { λ n. ⌜ sent n (now (b .exit)) (placed (now (media .exit)) (now (ids .exit))) ≡ onBlock (λ r. halfspaceCall r id k0 (placed (now (media .entry)) (now (ids .entry)))) (now (b .entry)) (placed (now (media .entry)) (now (ids .entry))) ⌝ }
 {
     if !block::is_record(b) {
         return BAD_STUDY;

@@ -15,7 +15,7 @@ use Rattle.grid.specs.Edited.{withClock}
 use Rattle.grid.specs.Vacuum.{epsOf, muOf, lightOf}
 use Rattle.grid.specs.Stores.{Stores, stores, Outcome, lengthsOf}
 use Rattle.opening.specs.Layer.{Layer, layer}
-use Rattle.materials.specs.Materials.{setMaterialCall, placed, assignBoxCall, halfspace, buildCall}
+use Rattle.materials.specs.Materials.{Placed, placed, putBoxCall, halfspaceCall, buildCall}
 use Rattle.boundary.specs.declared.LossyAbsorber.{LossyAbsorber}
 use Rattle.boundary.specs.Walls.{setPeriodicCall, setPlainCall, Lossed, setLossyCall}
 use Rattle.cpml.specs.Absorber.{Absorbed, setCpmlCall}
@@ -25,10 +25,10 @@ use Rattle.step.specs.Step.{stepCall}
 use Rattle.run.specs.Run.{runCall}
 use Rattle.block.specs.Block.{blockRecord}
 use Rattle.format.specs.Save.{saveLength, saveCall, lengthCall}
-use Rattle.calls.specs.Blocks.{sent, onBlock, clockOnBlock, readout, readBlock, answered, answering, addBytesCall, axisBits, Named, named, naming, openOnBlock, rewindOnBlock}
+use Rattle.calls.specs.Blocks.{sent, onBlock, clockOnBlock, readout, readBlock, answered, answering, addBytesCall, asked, Told, told, telling, axisBits, Named, named, naming, openOnBlock, rewindOnBlock}
 use Rattle.study.specs.History.{opening, doing, saving, rewinding, Honest}
-use Rattle.study.specs.World.{World, Lent, lentIn, Opening, SaidOpening, Act, SaidAct, setMaterial, assignBox, assignHalfspace, addMaterial, buildDispersion, setPeriodic, wallsPeriodic, wallsConductor, wallsLossy, wallsCpml, slab, injector, boxRegion, step, run, resetFields, totalEnergy, planeReading, askLength, Answer, nothing, numbers, floats, Room, front, puts}
-use Rattle.study.specs.Calls.{putMedia, putPlaced, putPoles, putLayer, putLossed, putAux, putReset, layerOf, lossedOf, placedOf, resetOf, boxRegionOf, Form, form, engine, replyOf, MadeOn, Silently, Numbering, Reading}
+use Rattle.study.specs.World.{World, Floats, Lent, lentIn, Opening, SaidOpening, Act, SaidPut, SaidAct, putBox, assignHalfspace, addMaterial, buildDispersion, setPeriodic, wallsPeriodic, wallsConductor, wallsLossy, wallsCpml, slab, injector, boxRegion, step, run, resetFields, totalEnergy, planeReading, askLength, Answer, nothing, numbers, floats, Room, front, puts}
+use Rattle.study.specs.Calls.{putPlaced, putPoles, putLayer, putLossed, putAux, putReset, layerOf, lossedOf, placedOf, resetOf, boxRegionOf, Form, form, engine, replyOf, MadeOn, Silently, Numbering, Reading}
 use Rattle.study.proofs.Regular.{regular, reads, moves}
 use Rattle.study.proofs.Made.{on-block, clock-block, read-block}
 use Rattle.study.proofs.Made as made
@@ -83,20 +83,25 @@ lent-of : (w : World) (b : List ℕ) (t : Stores) → w .block ≡ b → w .kept
 lent-of w b t p q = rw (p, q)
 
 -- ---- materials
-module _ (b b' : List ℕ) (n : ℕ) where
-  pub «cichowiej_set_material» : (box : IndexBox) (eps mu sigma : Float) (media media' : List Float) → SaidAct (setMaterial box eps mu sigma)
-      → sent n b' media' ≡ onBlock (λ r. setMaterialCall r box eps mu sigma media) b media
-      → Silently b b' (λ s. s .media ≡ media) (putMedia media') (doing (setMaterial box eps mu sigma)) n
-  «cichowiej_set_material» box eps mu sigma media media' said e w v p q r s =
-      silently (setMaterial box eps mu sigma) said refl (λ x. refl) n media' w v (rw (p, q, r) e) s
+said-put : (library : Bool) (id : ℕ) (eps mu sigma : Float) → Floats (eps ∷ mu ∷ sigma ∷ []) → SaidPut (asked library id eps mu sigma)
+said-put true id eps mu sigma fit = tt
+said-put false id eps mu sigma fit = fit
 
-  pub «cichowiej_assign_material_box» : (id : ℕ) (box : IndexBox) (media media' : List Float) (ids ids' : List ℕ)
-      → sent n b' (placed media' ids') ≡ onBlock (λ r. assignBoxCall r id box (placed media ids)) b (placed media ids)
-      → Silently b b' (λ s. placedOf s ≡ placed media ids) (putPlaced (placed media' ids')) (doing (assignBox id box)) n
-  «cichowiej_assign_material_box» id box media media' ids ids' e w v p q r s = silently (assignBox id box) tt refl (λ x. refl) n (placed media' ids') w v (rw (p, q, r) e) s
+module _ (b b' : List ℕ) (n : ℕ) where
+  pub «cichowiej_put_box» : (box : IndexBox) (library : Bool) (id : ℕ) (eps mu sigma : Float) (p p' : Placed) (room room' : List ℕ) → Floats (eps ∷ mu ∷ sigma ∷ [])
+      → sent n b' (told room' p') ≡ onBlock (λ r. telling (putBoxCall r box (asked library id eps mu sigma) p) room) b (told (answered 0 room) p)
+      → Numbering b b' (λ s. placedOf s ≡ p) (putPlaced p') (doing (putBox box (asked library id eps mu sigma) (length room))) n room room'
+  «cichowiej_put_box» box library id eps mu sigma p p' room room' fit e w v q h r s =
+      let what = asked library id eps mu sigma in
+      on-block w v (putBox box what (length room)) (said-put library id eps mu sigma fit) (numbers room) (numbers room') refl
+      (λ f. told (answered (f .cells) room) (f .stores)) n (told room' p') (numbers (take 1 room'))
+      (λ f i.
+      let room-is = ap (λ (k : Told). k .cells) i in
+      (s ∙ ap (λ (k : Told). putPlaced (k .stores) (w .kept)) i, number-front room room' (f .cells) room-is, number-back room room' (f .cells) room-is))
+      (sent-of (λ r. telling (putBoxCall r box what (placedOf (w .kept))) room) (told (answered 0 room) (placedOf (w .kept))) q r (rw h e))
 
   pub «cichowiej_assign_material_halfspace_z» : (id k0 : ℕ) (media media' : List Float) (ids ids' : List ℕ)
-      → sent n b' (placed media' ids') ≡ onBlock (λ r. assignBoxCall r id (halfspace r k0) (placed media ids)) b (placed media ids)
+      → sent n b' (placed media' ids') ≡ onBlock (λ r. halfspaceCall r id k0 (placed media ids)) b (placed media ids)
       → Silently b b' (λ s. placedOf s ≡ placed media ids) (putPlaced (placed media' ids')) (doing (assignHalfspace id k0)) n
   «cichowiej_assign_material_halfspace_z» id k0 media media' ids ids' e w v p q r s = silently (assignHalfspace id k0) tt refl (λ x. refl) n (placed media' ids') w v (rw (p, q, r) e) s
 

@@ -24,11 +24,16 @@ use Rattle.grid.proofs.Canonical.{canon-fault}
 use Rattle.grid.proofs.Tests.{or-none, first-none}
 use Rattle.grid.proofs.Settled.{lent-none}
 use Rattle.materials.proofs.Building.{add-none}
+use Rattle.materials.proofs.Placing.{uncounted-settled}
 use Rattle.block.specs.Inner.Held.{held, Held}
 use Rattle.codec.specs.Lists.{every}
 use lib.Ieee.Fits.{and-l, and-r}
 use Rattle.opening.specs.Layer.{layer, layerLong, layerLent, clearedLayer}
-use Rattle.materials.specs.Materials.{mediumAt, mediaFault, mediaSet, setMaterialCall, Placed, assignFault, idsSet, assigned, assignBoxCall, halfspace, builtOf, polesFault, buildCall, tooManyPoles, full, addFault, added, noSuchMaterial, placed}
+use Rattle.materials.specs.Materials.{mediumAt, mediaSet, Placed, idsSet, assigned, isKnown, putInto, putFault, filled, putBoxCall, halfspace, halfspaceCall, builtOf, polesFault, buildCall, tooManyPoles, full, addFault, added, noSuchMaterial, placed}
+use Rattle.materials.specs.declared.Put.{Put}
+use Rattle.materials.specs.declared.Put.the-variants.{Numbers, Library}
+use Rattle.cells.specs.Box.{boxCells}
+use Rattle.format.specs.InMemory.{StoresHeld}
 use Rattle.heads.specs.Payloads.{entryOf}
 use Rattle.block.proofs.Decoded.{read-held}
 use Rattle.format.specs.Save.{saveLength, lengthCall}
@@ -42,7 +47,7 @@ use Rattle.fields.specs.Fields.{reset, resetLong, cleared, resetCall, energyOf,
 use Rattle.step.specs.Step.{staleMaterial, spentClock, lastStep, freshIds, stepFault, stepped, ticked, stepCall}
 use Rattle.step.proofs.Judged.{ready}
 use Rattle.run.specs.Run.{ran, runCall}
-use Rattle.study.specs.World.{Floats, SaidAct, Act, setMaterial, assignBox, assignHalfspace, addMaterial, buildDispersion, setPeriodic, wallsPeriodic, wallsConductor, wallsLossy, wallsCpml, slab, injector, boxRegion, step, run, resetFields, totalEnergy, planeReading, askLength}
+use Rattle.study.specs.World.{Floats, SaidPut, SaidAct, Act, putBox, assignHalfspace, addMaterial, buildDispersion, setPeriodic, wallsPeriodic, wallsConductor, wallsLossy, wallsCpml, slab, injector, boxRegion, step, run, resetFields, totalEnergy, planeReading, askLength}
 use Rattle.study.specs.Inner.Holding.{Holding}
 use Rattle.study.specs.Calls.{Form, form, storing, putAux, putPlaced, putLayer, layerOf, lossedOf, placedOf, resetOf, boxRegionOf, weightOf}
 use Rattle.study.proofs.Kept.{material-kept, built-kept, added-kept, lent-kept}
@@ -83,33 +88,32 @@ set-asked nx ny nz b eps mu sigma old a t =
     let q = and-r (held eps) _ a in
     set-fit nx ny nz b eps mu sigma old p (and-l (held mu) _ q) (and-l (held sigma) _ (and-r (held mu) _ q)) t
 
-set-material : (b : IndexBox) (eps mu sigma : Float) → Regular (form (setMaterial b eps mu sigma)) 0 (SaidAct (setMaterial b eps mu sigma))
-unfolding setMaterialCall mediaFault storeLengths canon
-set-material b eps mu sigma = record {
-  fault = λ r s. mediaFault r (length (s .media));
-  next = λ r s. r;
-  rest = λ r s. mediaSet (r .nx) (r .ny) (r .nz) b (mediumAt eps mu sigma) (s .media);
-  is = λ r s. refl;
-  idles = λ s. refl;
-  silent = λ s. refl;
-  fault-canon = λ r s. lent-kept r (eqb (length (s .media)) (storeLengths r .media));
-  next-canon = λ r s h. refl;
-  rest-canon = λ r s h. refl;
-  counts = λ r s. nought _;
-  holds = λ said r s h e. record { held = h .held; fits = fit-media s (h .fits) _ (set-asked (r .nx) (r .ny) (r .nz) b eps mu sigma (s .media) said (h .fits .media)) };
-  sound = λ r s h e. lent-fine r (eqb (length (s .media)) (storeLengths r .media)) e;
-}
-
-counted : (r : Record) (m n id : ℕ) → assignFault r m n id ≡ 0 → id < r .«material_count»
-unfolding assignFault
+counted : (r : Record) (m n id : ℕ) → putFault r m n (Library id) ≡ 0 → id < r .«material_count»
+unfolding putFault isKnown
 counted r m n id e = ltb-true id (r .«material_count») (first-none (ltb id (r .«material_count»)) 6 0 (or-none (faultLent r _) _ e .1) .0)
 
-few : (r : Record) (m n id : ℕ) → assignFault r m n id ≡ 0 → id < 16
-unfolding assignFault
+few : (r : Record) (m n id : ℕ) → putFault r m n (Library id) ≡ 0 → id < 16
+unfolding putFault
 few r m n id e =
     let low = counted r m n id e in
     let sixteen = lent-none r _ (or-none (faultLent r (eqb m (storeLengths r .media) && eqb n (storeLengths r .ids))) _ e .0) .0 .materials in
     omega (arith, low, sixteen)
+
+known-kept : (r : Record) (what : Put) → isKnown (canon r) what ≡ isKnown r what
+unfolding isKnown canon
+known-kept r (Numbers eps mu sigma) = refl
+known-kept r (Library id) = refl
+
+put-fault-kept : (r : Record) (m n : ℕ) (what : Put) → putFault (canon r) m n what ≡ putFault r m n what
+unfolding putFault storeLengths canon
+put-fault-kept r m n what =
+    ap (λ (t : Bool). orElse (faultLent (canon r) (eqb m (storeLengths r .media) && eqb n (storeLengths r .ids))) (first t noSuchMaterial 0)) (known-kept r what)
+    ∙ ap (λ (f : ℕ). orElse f (first (isKnown r what) noSuchMaterial 0)) (lent-kept r (eqb m (storeLengths r .media) && eqb n (storeLengths r .ids)))
+
+put-fine : (r : Record) (m n : ℕ) (what : Put) → putFault r m n what ≡ 0 → faultOf r ≡ 0
+unfolding putFault
+put-fine r m n what e =
+    lent-fine r (eqb m (storeLengths r .media) && eqb n (storeLengths r .ids)) (or-none (faultLent r (eqb m (storeLengths r .media) && eqb n (storeLengths r .ids))) _ e .0)
 
 left-three : (p a : List Bool) → length (periodicLeft p a) ≡ 3
 unfolding periodicLeft
@@ -121,30 +125,51 @@ placed-kept r id b p low =
     ap (λ (m : DispersiveMaterial). placed (mediaSet (r .nx) (r .ny) (r .nz) b (mediumAt (m .«eps_inf») (m .«mu_r») (m .sigma)) (p .media)) (idsSet (r .nx) (r .ny) (r .nz) b id (p .ids)))
     (material-kept r id low)
 
--- the box may hang on the sizes
-assign : (id : ℕ) (b : Record → IndexBox) → ((r : Record) → b (canon r) ≡ b r) → Regular (storing (λ r s. assignBoxCall r id (b r) (placedOf s)) placedOf putPlaced) 0 (Unit {0})
-unfolding assignBoxCall assignFault storeLengths canon
-assign id b same = record {
-  fault = λ r s. assignFault r (length (s .media)) (length (s .ids)) id;
+put-kept : (r : Record) (b : IndexBox) (what : Put) (p : Placed) → putFault r (length (p .media)) (length (p .ids)) what ≡ 0 → putInto (canon r) b what p ≡ putInto r b what p
+unfolding putInto canon
+put-kept r b (Numbers eps mu sigma) p e = refl
+put-kept r b (Library id) p e = placed-kept r id b p (counted r (length (p .media)) (length (p .ids)) id e)
+
+put-fit : (r : Record) (s : Stores) (b : IndexBox) (what : Put) → Held r → StoresHeld s → SaidPut what → putFault r (length (s .media)) (length (s .ids)) what ≡ 0
+    → StoresHeld (putPlaced (putInto r b what (placedOf s)) s)
+unfolding putInto
+put-fit r s b (Numbers eps mu sigma) h f said e = fit-media s f _ (set-asked (r .nx) (r .ny) (r .nz) b eps mu sigma (s .media) said (f .media))
+put-fit r s b (Library id) h f said e = fit-assigned r s b id h f (few r (length (s .media)) (length (s .ids)) id e)
+
+put-box : (b : IndexBox) (what : Put) (n : ℕ) → Regular (form (putBox b what n)) 0 (SaidAct (putBox b what n))
+unfolding putBoxCall canon
+put-box b what n = record {
+  fault = λ r s. putFault r (length (s .media)) (length (s .ids)) what;
   next = λ r s. r;
-  rest = λ r s. assigned r (b r) id (placedOf s);
+  rest = λ r s. filled (putInto r b what (placedOf s)) (boxCells (r .nx) (r .ny) (r .nz) b);
   is = λ r s. refl;
   idles = λ s. refl;
   silent = λ s. refl;
-  fault-canon = λ r s. ap (λ (n : ℕ). orElse n (first (ltb id (r .«material_count»)) noSuchMaterial 0))
-      (lent-kept r (eqb (length (s .media)) (storeLengths r .media) && eqb (length (s .ids)) (storeLengths r .ids)));
+  fault-canon = λ r s. put-fault-kept r (length (s .media)) (length (s .ids)) what;
   next-canon = λ r s h. refl;
-  rest-canon = λ r s h. ap (λ (x : IndexBox). assigned (canon r) x id (placedOf s)) (same r)
-      ∙ placed-kept r id (b r) (placedOf s) (counted r (length (s .media)) (length (s .ids)) id h);
+  rest-canon = λ r s h. ap (λ (p : Placed). filled p (boxCells (r .nx) (r .ny) (r .nz) b)) (put-kept r b what (placedOf s) h);
   counts = λ r s. nought _;
-  holds = λ said r s h e.
-      record { held = h .held; fits = fit-assigned r s (b r) id (h .held) (h .fits) (few r (length (s .media)) (length (s .ids)) id e) };
-  sound = λ r s h e. lent-fine r (eqb (length (s .media)) (storeLengths r .media) && eqb (length (s .ids)) (storeLengths r .ids)) (or-none (faultLent r (eqb (length (s .media)) (storeLengths r .media) && eqb (length (s .ids)) (storeLengths r .ids))) _ e .0);
+  holds = λ said r s h e. record { held = h .held; fits = put-fit r s b what (h .held) (h .fits) said e };
+  sound = λ r s h e. put-fine r (length (s .media)) (length (s .ids)) what e;
 }
 
-half-same : (k0 : ℕ) (r : Record) → halfspace (canon r) k0 ≡ halfspace r k0
-unfolding canon
-half-same k0 r = refl
+half : (id k0 : ℕ) → Regular (form (assignHalfspace id k0)) 0 (SaidAct (assignHalfspace id k0))
+unfolding halfspaceCall putBoxCall putInto canon
+half id k0 = record {
+  fault = λ r s. putFault r (length (s .media)) (length (s .ids)) (Library id);
+  next = λ r s. r;
+  rest = λ r s. assigned r (halfspace r k0) id (placedOf s);
+  is = λ r s. uncounted-settled (putFault r (length (s .media)) (length (s .ids)) (Library id)) r (placedOf s) _ _;
+  idles = λ s. refl;
+  silent = λ s. refl;
+  fault-canon = λ r s. put-fault-kept r (length (s .media)) (length (s .ids)) (Library id);
+  next-canon = λ r s h. refl;
+  rest-canon = λ r s h. placed-kept r id (halfspace r k0) (placedOf s) (counted r (length (s .media)) (length (s .ids)) id h);
+  counts = λ r s. nought _;
+  holds = λ said r s h e.
+      record { held = h .held; fits = fit-assigned r s (halfspace r k0) id (h .held) (h .fits) (few r (length (s .media)) (length (s .ids)) id e) };
+  sound = λ r s h e. put-fine r (length (s .media)) (length (s .ids)) (Library id) e;
+}
 
 -- the bytes are a material's, whatever they are: only bytes that are one are taken
 adding : (m : List ℕ) (r : Record) → addBytesFault m r ≡ 0 → addFault r (materialOf m .«pole_count») ≡ 0
@@ -462,9 +487,8 @@ asked-length n = record {
 }
 
 pub regular : (c : Act) → Regular (form c) (weightOf c) (SaidAct c)
-regular (setMaterial b eps mu sigma) = set-material b eps mu sigma
-regular (assignBox id b) = assign id (λ r. b) (λ r. refl)
-regular (assignHalfspace id k0) = assign id (λ r. halfspace r k0) (half-same k0)
+regular (putBox b what n) = put-box b what n
+regular (assignHalfspace id k0) = half id k0
 regular (addMaterial m n) = add m n
 regular buildDispersion = build
 regular (setPeriodic x y z) = periodic x y z

@@ -17,7 +17,7 @@ use Rattle.grid.specs.Vacuum.{epsOf, muOf, lightOf}
 use Rattle.grid.specs.Stores.{Stores, stores, Outcome, lengthsOf, faultWith}
 use Rattle.opening.specs.Opening.{openRecord, openStores}
 use Rattle.opening.specs.Layer.{Layer, layer}
-use Rattle.materials.specs.Materials.{setMaterialCall, Placed, placed, assignBoxCall, halfspace, buildCall}
+use Rattle.materials.specs.Materials.{Placed, placed, Filled, filled, putBoxCall, halfspaceCall, buildCall}
 use Rattle.boundary.specs.Walls.{setPeriodicCall, setPlainCall, Lossed, setLossyCall}
 use Rattle.cpml.specs.Absorber.{Absorbed, absorbed, noAxis, setCpmlCall}
 use Rattle.tfsf.specs.Wave.{slabZ, injectorZ, regionCall}
@@ -27,7 +27,7 @@ use Rattle.run.specs.Run.{runCall}
 use Rattle.format.specs.Save.{saveBytes, saveFault, lengthCall}
 use Rattle.format.specs.Rewind.{readRecord, readStores, rewindFault}
 use Rattle.calls.specs.Blocks.{lentBlock, addBytesCall, axisBits}
-use Rattle.study.specs.World.{World, Unchanged, Lent, lentIn, Study, studyOf, Opening, Act, setMaterial, assignBox, assignHalfspace, addMaterial, buildDispersion, setPeriodic, wallsPeriodic, wallsConductor, wallsLossy, wallsCpml, slab, injector, boxRegion, step, run, resetFields, totalEnergy, planeReading, askLength, Asked, SaidCall, Answer, nothing, numbers, floats, Room, front, puts, NumbersLent, FloatsLent, writtenIn}
+use Rattle.study.specs.World.{World, Unchanged, Lent, lentIn, Study, studyOf, Opening, Act, putBox, assignHalfspace, addMaterial, buildDispersion, setPeriodic, wallsPeriodic, wallsConductor, wallsLossy, wallsCpml, slab, injector, boxRegion, step, run, resetFields, totalEnergy, planeReading, askLength, Asked, SaidCall, Answer, nothing, numbers, floats, Room, front, puts, NumbersLent, FloatsLent, writtenIn}
 
 -- ---- the stores with some of them put anew
 abbrev pub putMedia : List Float → Stores → Stores
@@ -89,9 +89,16 @@ abbrev pub boxRegionOf : (i0 i1 j0 j1 k0 k1 : ℕ) → Region
 boxRegionOf i0 i1 j0 j1 k0 k1 = record { kind = BoxRegion; i0 = i0; i1 = i1; j0 = j0; j1 = j1; k0 = k0; k1 = k1 }
 
 abbrev pub form : Act → Form
-form (setMaterial b eps mu sigma) = storing (λ r s. setMaterialCall r b eps mu sigma (s .media)) (λ s. s .media) putMedia
-form (assignBox id b) = storing (λ r s. assignBoxCall r id b (placedOf s)) placedOf putPlaced
-form (assignHalfspace id k0) = storing (λ r s. assignBoxCall r id (halfspace r k0) (placedOf s)) placedOf putPlaced
+form (putBox b what n) = record {
+  Rest = Filled;
+  call = λ r s. putBoxCall r b what (placedOf s);
+  answer = λ f. numbers (front n (f .cells));
+  stored = λ f s. putPlaced (f .stores) s;
+  idle = λ s. filled (placedOf s) 0;
+  nought = numbers (front n 0);
+  lends = NumbersLent n;
+}
+form (assignHalfspace id k0) = storing (λ r s. halfspaceCall r id k0 (placedOf s)) placedOf putPlaced
 form (addMaterial m n) = numbering n (λ r s. addBytesCall m r)
 form buildDispersion = storing (λ r s. buildCall r (s .poles)) (λ s. s .poles) putPoles
 form (setPeriodic x y z) = storing (λ r s. setPeriodicCall r (x ∷ y ∷ z ∷ [])) (λ s. tt) (λ t s. s)
@@ -178,8 +185,7 @@ engine = record {
 
 -- ---- the steps that an accepted call counts
 abbrev pub weightOf : Act → ℕ
-weightOf (setMaterial b eps mu sigma) = 0
-weightOf (assignBox id b) = 0
+weightOf (putBox b what n) = 0
 weightOf (assignHalfspace id k0) = 0
 weightOf (addMaterial m n) = 0
 weightOf buildDispersion = 0

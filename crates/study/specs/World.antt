@@ -16,6 +16,8 @@ use Rattle.grid.specs.declared.Record.{Record}
 use Rattle.grid.specs.declared.stores.Lengths.{Lengths}
 use Rattle.grid.specs.Stores.{Stores, lengthsOf}
 use Rattle.grid.specs.Canon.{canon}
+use Rattle.materials.specs.declared.Put.{Put}
+use Rattle.materials.specs.declared.Put.the-variants.{Numbers, Library}
 use Rattle.boundary.specs.declared.LossyAbsorber.{LossyAbsorber}
 use Rattle.block.specs.Block.{blockFine, blockRecord}
 use Rattle.format.specs.InMemory.{StoresHeld}
@@ -63,10 +65,8 @@ pub record Opening : Type 0 where
 
 -- every other C function on a study, saves and rewinds apart, with what it is asked; `room` is the length of the room for its answer
 pub data Act : Type 0 where
-  -- cichowiej_set_material
-  setMaterial : IndexBox → (eps mu sigma : Float) → Act
-  -- cichowiej_assign_material_box, cichowiej_assign_material_halfspace_z
-  assignBox : (id : ℕ) → IndexBox → Act
+  -- cichowiej_put_box, cichowiej_assign_material_halfspace_z
+  putBox : IndexBox → Put → (room : ℕ) → Act
   assignHalfspace : (id k0 : ℕ) → Act
   -- cichowiej_add_material, handed bytes
   addMaterial : (material : List ℕ) → (room : ℕ) → Act
@@ -103,9 +103,12 @@ Floats l = T (floatsFit l)
 abbrev pub SaidOpening : Opening → Type 0
 SaidOpening o = Floats (o .spacings .dx ∷ o .spacings .dy ∷ o .spacings .dz ∷ o .spacings .dt ∷ [])
 
+abbrev pub SaidPut : Put → Type 0
+SaidPut (Numbers eps mu sigma) = Floats (eps ∷ mu ∷ sigma ∷ [])
+SaidPut (Library id) = Unit {0}
+
 abbrev pub SaidAct : Act → Type 0
-SaidAct (setMaterial b eps mu sigma) = Floats (eps ∷ mu ∷ sigma ∷ [])
-SaidAct (assignBox id b) = Unit {0}
+SaidAct (putBox b what n) = SaidPut what
 SaidAct (assignHalfspace id k0) = Unit {0}
 SaidAct (addMaterial m n) = T (bytesFit m)
 SaidAct buildDispersion = Unit {0}
@@ -130,7 +133,7 @@ SaidCall (doing c) = SaidAct c
 SaidCall (saving n) = Unit {0}
 SaidCall (rewinding b l) = T (bytesFit b)
 
--- ---- what is answered besides the refusal's number: what is written at the front of the room that is lent for it. An added material's id, the
+-- ---- what is answered besides the refusal's number: what is written at the front of the room that is lent for it. A box's number of cells, an added material's id, the
 -- active axes, a save's length and the bytes of a save are whole numbers, the readings floats
 pub data Answer : Type 0 where
   nothing : Answer

@@ -11,7 +11,7 @@ use crate::curve::told;
 use crate::digest::sha256;
 use crate::standing::study_from;
 use crate::text::plain;
-use cichowiej::{MaterialId, Refusal, Source, Study, write_whole};
+use cichowiej::{CellBox, MaterialId, Put, Refusal, Source, Study, write_whole};
 use parse::{Lined, parse};
 use statement::{Edge, Statement, Wave};
 use std::collections::BTreeMap;
@@ -173,6 +173,7 @@ impl Session<'_> {
                 self.names.insert(name.clone(), id);
                 return Ok(Some(format!("material {} {}", plain(name), id.number())));
             }
+            Statement::Box { .. } | Statement::Halfspace { .. } | Statement::Numbers { .. } => return self.put(statement),
             Statement::Edge(edge) => return self.edge(edge),
             Statement::Run { steps, source, .. } => return self.run(*steps, source.as_ref()).map(|()| None),
             Statement::Energy => {
@@ -195,17 +196,29 @@ impl Session<'_> {
         Ok(None)
     }
 
+    /// Fills cells; the answer is how many.
+    fn put(&mut self, statement: &Statement) -> Result<Option<String>, Trouble> {
+        let (words, cells, what) = match statement {
+            Statement::Box { material, cells } => {
+                (format!("box {}", plain(material)), *cells, Put::Library(self.material(material)?))
+            }
+            Statement::Halfspace { material, k0 } => {
+                let all = CellBox::planes(*k0, usize::MAX);
+                (format!("halfspace {}", plain(material)), all, Put::Library(self.material(material)?))
+            }
+            Statement::Numbers { cells, eps_r, mu_r, sigma } => {
+                ("numbers".into(), *cells, Put::Numbers { eps_r: *eps_r, mu_r: *mu_r, sigma: *sigma })
+            }
+            _ => return Ok(None),
+        };
+        let count = self.study()?.put_box(cells, what)?;
+        Ok(Some(format!("{words} {count}")))
+    }
+
     /// A call that changes the study and answers nothing.
     fn edit(&mut self, statement: &Statement) -> Result<(), Trouble> {
-        let id = match statement {
-            Statement::Box { material, .. } | Statement::Halfspace { material, .. } => self.material(material)?,
-            _ => MaterialId::VACUUM,
-        };
         let study = self.study()?;
         match statement {
-            Statement::Box { cells, .. } => study.assign_material_box(id, *cells)?,
-            Statement::Halfspace { k0, .. } => study.assign_material_halfspace_z(id, *k0)?,
-            Statement::Numbers { cells, eps_r, mu_r, sigma } => study.set_material(*cells, *eps_r, *mu_r, *sigma)?,
             Statement::Periodic(axes) => study.set_periodic(*axes)?,
             Statement::Wave(Wave::Slab { k0, k1 }) => study.slab_z(*k0, *k1)?,
             Statement::Wave(Wave::Injector { k0 }) => study.injector_z(*k0)?,

@@ -45,9 +45,13 @@ fn no_more_studies_are_run_at_a_time_than_fit() {
     assert_eq!(status, Some(0), "{err}");
     assert!(err.starts_with("6 studies of 193 MB each, 3 at a time: ") && err.contains(" MB are free\n"), "{err}");
     // one that has no room is not begun
-    for (limit, words) in
-        [("250000", "--jobs 6"), ("150000", "--point 1"), ("100000", "--plan list"), ("100000", "--gather"), ("100000", "--jobs 1")]
-    {
+    for (limit, words) in [
+        ("250000", "--jobs 6"),
+        ("150000", "--point 1"),
+        ("100000", "--plan list"),
+        ("100000", "--gather"),
+        ("100000", "--jobs 1"),
+    ] {
         let (status, err) = limited(limit, words);
         assert!(status == Some(1) && err.starts_with("cichowiej: a study takes 193 MB, and "), "{words}: {err}");
         assert!(err.ends_with(" are free: take fewer cells, or another machine\n"), "{words}: {err}");

@@ -5,7 +5,7 @@ mod child;
 
 use assert_cmd::cargo::cargo_bin;
 use child::{Running, make_pipe, until};
-use cichowiej::{CellBox, Constants, CpmlConfig, Grid, Material, Pole, REFUSALS, Source, Study};
+use cichowiej::{CellBox, Constants, CpmlConfig, Grid, Material, MaterialId, Pole, Put, REFUSALS, Source, Study};
 use std::fs;
 use std::io::Read;
 use std::os::unix::fs::symlink;
@@ -73,8 +73,8 @@ fn by_hand(constants: Constants) -> Study {
     study.set_boundary_cpml(&CpmlConfig { axes: [false, false, true], thickness: 12, ..CpmlConfig::default() }).unwrap();
     let paper = Material::plain(3.0).with_sigma(0.1).with_pole(Pole::Debye { delta_eps: 2.0, tau: 9.0 * 1e-12 });
     let paper = study.add_material(&paper).unwrap();
-    study.assign_material_box(paper, CellBox::planes(40, 42)).unwrap();
-    study.set_material(CellBox::planes(50, 52), 1.5, 1.0, 0.0).unwrap();
+    study.put_box(CellBox::planes(40, 42), Put::Library(paper)).unwrap();
+    study.put_box(CellBox::planes(50, 52), Put::Numbers { eps_r: 1.5, mu_r: 1.0, sigma: 0.0 }).unwrap();
     study.build_dispersion().unwrap();
     study.injector_z(20).unwrap();
     let source = Source::Modulated { amplitude: 1.0, width: 80.0 * 1e-12, delay: 400.0 * 1e-12, frequency: 10.0 * 1e9 };
@@ -91,11 +91,37 @@ fn a_script_makes_the_librarys_calls() {
     let study = by_hand(Constants::Old);
     assert!(fs::read(folder.path("a.save")).unwrap() == study.save().unwrap());
     let answers: Vec<&str> = out.lines().collect();
-    assert_eq!(answers[..2], ["absorbing layer: asked for on z, works on z", "material paper 1"]);
-    assert_eq!(answers[2], format!("energy {:?}", study.total_energy().unwrap()));
-    assert_eq!(answers[3], format!("plane 70 {:?}", study.plane_reading(70).unwrap()));
-    assert!(answers[4].starts_with("save a.save ") && answers[4].contains("SHA-256"));
-    assert!(answers[5] != answers[2] && answers[6] == answers[2], "{out}");
+    assert_eq!(answers[..4], ["absorbing layer: asked for on z, works on z", "material paper 1", "box paper 2", "numbers 2"]);
+    assert_eq!(answers[4], format!("energy {:?}", study.total_energy().unwrap()));
+    assert_eq!(answers[5], format!("plane 70 {:?}", study.plane_reading(70).unwrap()));
+    assert!(answers[6].starts_with("save a.save ") && answers[6].contains("SHA-256"));
+    assert!(answers[7] != answers[4] && answers[8] == answers[4], "{out}");
+}
+
+/// The line of the script's energy after its save was run on.
+fn run_on(answers: &str) -> &str {
+    answers.lines().filter(|line| line.starts_with("energy ")).nth(1).unwrap()
+}
+
+/// Ranges are cut to the grid, and one that is empty or past it has no cell; a half space is the box of the library's call.
+#[test]
+fn what_is_put_into_cells_is_counted() {
+    let begun = "size 4 3 2\npitch 1mm courant=0.5\nmaterial m eps_inf=2\n";
+    let put = "numbers eps_r=3 mu_r=1 sigma=0 x=1:9 y=0:2 z=1:99\nbox m x=1:9 y=0:2 z=1:99\nbox m x=4:9\nbox m x=2:2\nbox m\nhalfspace m 1\nhalfspace m 2\n";
+    let (status, out, err) = Folder::new(&format!("{begun}{put}")).run(&[]);
+    assert_eq!((status, err.as_str()), (0, ""));
+    assert_eq!(
+        out.lines().collect::<Vec<_>>(),
+        ["material m 1", "numbers 6", "box m 6", "box m 0", "box m 0", "box m 24", "halfspace m 12", "halfspace m 0"]
+    );
+    let folder = Folder::new(&format!("{begun}halfspace m 1\nsave a.save\n"));
+    assert_eq!(folder.run(&[]).0, 0);
+    let mut study = Study::from_save(&fs::read(folder.path("a.save")).unwrap()).unwrap();
+    let half = study.save().unwrap();
+    study.put_box(CellBox::planes(0, usize::MAX), Put::Library(MaterialId::VACUUM)).unwrap();
+    assert!(study.save().unwrap() != half);
+    study.assign_material_halfspace_z(MaterialId::numbered(1), 1).unwrap();
+    assert!(study.save().unwrap() == half);
 }
 
 /// Of the size line; without a word the old ones.
@@ -122,11 +148,11 @@ fn a_save_brings_its_constants() {
     let (_, whole, _) = folder.run(&[]);
     fs::write(folder.path("s.txt"), "size 1 1 90\npitch 1mm courant=0.5\nrewind a.save\nrun 100\nenergy\nsave b.save\n").unwrap();
     let (status, out, err) = folder.run(&[]);
-    assert_eq!((status, err.as_str(), out.lines().next()), (0, "", whole.lines().nth(5)));
+    assert_eq!((status, err.as_str(), out.lines().next()), (0, "", Some(run_on(&whole))));
     assert_eq!(Study::from_save(&fs::read(folder.path("b.save")).unwrap()).unwrap().grid().constants, Constants::Si2019);
     fs::write(folder.path("s.txt"), "run 100\nenergy\n").unwrap();
     let told = "from a save of 500 steps, absorbing layer works on z\nconstants of vacuum: 2019";
-    assert_eq!(folder.run(&["--from", "a.save"]).1, format!("{told}\n{}\n", whole.lines().nth(5).unwrap()));
+    assert_eq!(folder.run(&["--from", "a.save"]).1, format!("{told}\n{}\n", run_on(&whole)));
 }
 
 /// A save from before there was a choice, and what is written of it now.
@@ -165,7 +191,7 @@ fn a_saved_study_is_taken_up() {
     let (status, out, err) = folder.run(&["--from", "a.save"]);
     assert_eq!((status, err.as_str()), (0, ""));
     let told = "from a save of 500 steps, absorbing layer works on z";
-    assert_eq!(out.trim(), format!("{told}\n{}", whole.lines().nth(5).unwrap()));
+    assert_eq!(out, format!("{told}\n{}\nbox 1 1\nbox vacuum 1\n", run_on(&whole)));
     let (status, _, err) = folder.run(&["--from", "s.txt"]);
     assert!(status == 1 && err.contains("s.txt: refused as 14 BadMark: "), "{err}");
 }

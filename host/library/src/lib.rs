@@ -48,4 +48,4 @@ pub use refusal::{REFUSALS, Refusal};
 pub use source::Source;
 pub use spectrum::{Complex, PlaneSpectrum};
 pub use stores::{BLOCK_LENGTH, LINE_PAD, MATERIAL_LENGTH, MAX_CELLS, MAX_POLE_SLOTS, MAX_SIDE};
-pub use study::{CellBox, Field, Grid, Layer, MaterialId, Study};
+pub use study::{CellBox, Field, Grid, Layer, MaterialId, Put, Study};

@@ -1,7 +1,7 @@
 //! A study that owns its record and its stores, with a method for each call.
 
 use crate::absorber::{CpmlConfig, tables};
-use crate::bindings::{Lent, cichowiej_cfl_number};
+use crate::bindings::{self, Lent, cichowiej_cfl_number};
 use crate::constants::Constants;
 use crate::material::{Material, Pole};
 use crate::maths;
@@ -87,6 +87,24 @@ impl CellBox {
     }
 }
 
+/// What is put into the cells of a box.
+#[derive(Debug, Clone, Copy, PartialEq)]
+pub enum Put {
+    /// The cells keep the poles that they have.
+    Numbers { eps_r: f64, mu_r: f64, sigma: f64 },
+    /// A material's numbers, and from the next `build_dispersion` on its poles.
+    Library(MaterialId),
+}
+
+impl Put {
+    fn lent(self) -> bindings::Put {
+        match self {
+            Self::Numbers { eps_r, mu_r, sigma } => bindings::Put::Numbers([eps_r, mu_r, sigma]),
+            Self::Library(material) => bindings::Put::Library(material.0),
+        }
+    }
+}
+
 /// A material that was added to a study.
 #[derive(Debug, Clone, Copy, PartialEq, Eq, Hash)]
 pub struct MaterialId(u32);
@@ -147,19 +165,17 @@ impl Study {
 
     // ---- materials
 
-    /// Puts the three numbers into each cell of the box; the cells keep the poles that they have.
-    pub fn set_material(&mut self, cells: CellBox, eps_r: f64, mu_r: f64, sigma: f64) -> Result<(), Refusal> {
-        Refusal::check(self.lent.set_material(cells.ends(), [eps_r, mu_r, sigma]))
-    }
-
     pub fn add_material(&mut self, material: &Material) -> Result<MaterialId, Refusal> {
         let mut id = [0];
         Refusal::check(self.lent.add_material(&material.bytes(), &mut id))?;
         Ok(MaterialId(id[0]))
     }
 
-    pub fn assign_material_box(&mut self, material: MaterialId, cells: CellBox) -> Result<(), Refusal> {
-        Refusal::check(self.lent.assign_material_box(material.0, cells.ends()))
+    /// Puts three numbers, or a material, into each cell of the box, and answers how many cells it has in the grid.
+    pub fn put_box(&mut self, cells: CellBox, what: Put) -> Result<u32, Refusal> {
+        let mut count = [0];
+        Refusal::check(self.lent.put_box(cells.ends(), what.lent(), &mut count))?;
+        Ok(count[0])
     }
 
     /// Every cell from plane k0 on.

@@ -1,6 +1,6 @@
 //! The library's calls: each refusal, what it leaves, saves, constants, threads, the layer that is told.
 
-use cichowiej::{CellBox, Constants, CpmlConfig, Field, Grid, Material, Pole, REFUSALS, Refusal, Source, Study};
+use cichowiej::{CellBox, Constants, CpmlConfig, Field, Grid, Material, Pole, Put, REFUSALS, Refusal, Source, Study};
 use std::path::Path;
 use std::{fs, thread};
 
@@ -55,7 +55,7 @@ fn calls_are_refused_and_change_nothing() {
     let five = (0..5).fold(Material::plain(1.0), |m, _| m.with_pole(Pole::Debye { delta_eps: 1.0, tau: 1.0 }));
     refused(&mut study, |s| s.add_material(&five), Refusal::TooManyPoles);
     let elsewhere = line(2).add_material(&debye()).unwrap();
-    refused(&mut study, |s| s.assign_material_box(elsewhere, CellBox::planes(0, 0)), Refusal::NoSuchMaterial);
+    refused(&mut study, |s| s.put_box(CellBox::planes(0, 0), Put::Library(elsewhere)), Refusal::NoSuchMaterial);
     study.add_material(&debye()).unwrap();
     study.build_dispersion().unwrap();
     let late = study.add_material(&debye()).unwrap();
@@ -66,6 +66,32 @@ fn calls_are_refused_and_change_nothing() {
         study.add_material(&Material::plain(2.0)).unwrap();
     }
     refused(&mut study, |s| s.add_material(&Material::plain(2.0)), Refusal::Full);
+}
+
+/// Document 02, S-5: how many cells, by the ranges cut to the grid; three numbers leave the ids, and with them the poles.
+#[test]
+fn boxes_are_filled_and_counted() {
+    let mut study = Study::open(&grid([4, 3, 2])).unwrap();
+    let wet = study.add_material(&debye()).unwrap();
+    let cells = CellBox { x: (1, 9), y: (0, 2), z: (1, usize::MAX) };
+    let air = Put::Numbers { eps_r: 1.0, mu_r: 1.0, sigma: 0.0 };
+    let opened = study.save().unwrap();
+    assert_eq!(study.put_box(cells, air), Ok(6));
+    assert!(study.save().unwrap() == opened, "six cells of air are set to what they had");
+    assert_eq!(study.put_box(cells, Put::Library(wet)), Ok(6));
+    let filled = study.save().unwrap();
+    for x in [(2, 2), (3, 1), (4, 9)] {
+        assert_eq!(
+            (study.put_box(CellBox { x, ..cells }, air), study.put_box(CellBox { x, ..cells }, Put::Library(wet))),
+            (Ok(0), Ok(0))
+        );
+    }
+    assert!(study.save().unwrap() == filled);
+    // the poles stand, so that a build takes them up as before, and only the three numbers of six cells are others
+    assert_eq!(study.put_box(cells, air), Ok(6));
+    let changed = study.save().unwrap().iter().zip(&filled).filter(|(a, b)| a != b).count();
+    let of_one = 1.0f64.to_le_bytes().iter().zip(5.0f64.to_le_bytes()).filter(|(a, b)| **a != *b).count();
+    assert_eq!(changed, 6 * of_one);
 }
 
 #[test]
@@ -244,7 +270,7 @@ fn nothing_panics() {
         let (x, y) = (number(), number());
         let cells = CellBox { x: (a, b), y: (b, c), z: (c, a) };
         let _ = match next() % 14 {
-            0 => study.set_material(cells, x, y, x),
+            0 => study.put_box(cells, Put::Numbers { eps_r: x, mu_r: y, sigma: x }).map(|_| ()),
             1 => study.add_material(&debye().with_sigma(x)).map(|_| ()),
             2 => study.set_periodic([x > y, y > x, true]),
             3 => study.set_boundary_lossy(a, b, x),

@@ -1,7 +1,7 @@
 //! The limit of the Courant number, tried: a little above it the field grows without end. A little below it the field stays; what the incident wave leaves in the
 //! last cell before a wall, where nothing else moves the magnetic field, drives the electric field there in proportion to time, and its energy to the square.
 
-use cichowiej::{CellBox, Constants, Grid, Material, Pole, Study};
+use cichowiej::{CellBox, Constants, Grid, Material, Pole, Put, Study};
 
 /// Cells, which axes are periodic, and the limit for cubic cells, by hand where it is simple.
 const CASES: [([usize; 3], [bool; 3], Option<f64>); 9] = [
@@ -30,7 +30,7 @@ fn left(cells: [usize; 3], periodic: [bool; 3], pitch: [f64; 3], part: f64, step
     study.set_periodic(periodic).unwrap();
     // a cell that is a little denser sends the wave along every axis
     let [x, y, z] = cells.map(|n| ((n - 1) / 2, (n - 1) / 2 + 1));
-    study.set_material(CellBox { x, y, z }, 1.01, 1.0, 0.0).unwrap();
+    study.put_box(CellBox { x, y, z }, Put::Numbers { eps_r: 1.01, mu_r: 1.0, sigma: 0.0 }).unwrap();
     study.injector_z(cells[2] / 3).unwrap();
     assert!((study.courant_limit() * part / grid.courant_number() - 1.0).abs() < 1e-9);
     study.run(&[1.0, -1.0, 1.0, 0.5, -0.3, 0.7]).unwrap();
@@ -100,7 +100,7 @@ fn filled(material: &Material, dt: f64) -> (Study, bool) {
     let mut study = Study::open(&grid).unwrap();
     study.set_periodic([true, true, true]).unwrap();
     let id = study.add_material(material).unwrap();
-    study.assign_material_box(id, CellBox::planes(0, 60)).unwrap();
+    study.put_box(CellBox::planes(0, 60), Put::Library(id)).unwrap();
     study.build_dispersion().unwrap();
     assert_eq!(study.material(id).as_ref(), Some(material));
     study.injector_z(20).unwrap();

@@ -5,7 +5,7 @@ use crate::CONSTANTS;
 use crate::report::{Section, db};
 use crate::slabs::{COURANT, water};
 use crate::theory;
-use cichowiej::{CellBox, CpmlConfig, Grid, Layer, Material, PlaneSpectrum, Pole, Refusal, Source, Study};
+use cichowiej::{CellBox, CpmlConfig, Grid, Layer, Material, PlaneSpectrum, Pole, Put, Refusal, Source, Study};
 use rayon::prelude::*;
 
 /// Copy paper of 80 g/m²: 76 g/m² of it dry, 104 µm thick, in SI.
@@ -51,7 +51,7 @@ fn through(moisture: Option<f64>, thickness: usize) -> Result<(f64, Layer), Refu
     let layer = study.set_boundary_cpml(&CpmlConfig { thickness, axes: [false, false, true], ..CpmlConfig::default() })?;
     if let Some(moisture) = moisture {
         let id = study.add_material(&sheet(moisture))?;
-        study.assign_material_box(id, CellBox::planes(SHEET.0, SHEET.1))?;
+        study.put_box(CellBox::planes(SHEET.0, SHEET.1), Put::Library(id))?;
     }
     study.build_dispersion()?;
     study.slab_z(WAVE.0, WAVE.1)?;

@@ -2,7 +2,7 @@
 
 use crate::CONSTANTS;
 use crate::report::{Section, largest};
-use cichowiej::{CellBox, Field, Grid, Refusal, Source, Study};
+use cichowiej::{CellBox, Field, Grid, Put, Refusal, Source, Study};
 use rayon::prelude::*;
 
 const CELLS: [usize; 3] = [20, 18, 16];
@@ -33,7 +33,7 @@ impl Cavity {
     fn filled(&self) -> Result<Study, Refusal> {
         let mut study = Study::open(&Self::grid())?;
         study.set_boundary_conductor()?;
-        study.set_material(BLOCK, PERMITTIVITY, 1.0, 0.0)?;
+        study.put_box(BLOCK, Put::Numbers { eps_r: PERMITTIVITY, mu_r: 1.0, sigma: 0.0 })?;
         study.box_region(REGION)?;
         let source = Source::Modulated { amplitude: 1.0, width: 50e-12, delay: 250e-12, frequency: 20e9 };
         let dt = Self::grid().dt;
@@ -41,7 +41,7 @@ impl Cavity {
         // set anew, the wave's own line is 0 throughout: from here on nothing enters
         study.box_region(REGION)?;
         if !self.block {
-            study.set_material(BLOCK, 1.0, 1.0, 0.0)?;
+            study.put_box(BLOCK, Put::Numbers { eps_r: 1.0, mu_r: 1.0, sigma: 0.0 })?;
         }
         Ok(study)
     }

@@ -3,7 +3,7 @@
 use crate::{scheme, theory};
 use cichowiej::tables_with;
 use cichowiej::{
-    CellBox, Complex, Constants, CpmlConfig, Functions, Grid, Material, PlaneSpectrum, Pole, Refusal, Source, Study,
+    CellBox, Complex, Constants, CpmlConfig, Functions, Grid, Material, PlaneSpectrum, Pole, Put, Refusal, Source, Study,
 };
 use std::f64::consts::PI;
 
@@ -112,7 +112,7 @@ impl Line {
         study.set_boundary_tables(config.axes, config.thickness, &tables_with(&grid, &config, functions)?)?;
         if filled {
             let id = study.add_material(&self.case.material)?;
-            study.assign_material_box(id, CellBox::planes(places.slab, places.slab + self.fine))?;
+            study.put_box(CellBox::planes(places.slab, places.slab + self.fine), Put::Library(id))?;
         }
         study.build_dispersion()?;
         study.injector_z(places.wave)?;

@@ -4,7 +4,7 @@ use std::fmt;
 use std::ops::Range;
 
 use crate::engine::block::{self, Material, Region};
-use crate::engine::{Answer, Study};
+use crate::engine::{Answer, Put, Study};
 use crate::fill::Fill;
 
 /// Numbers that a printed history only counts.
@@ -36,15 +36,11 @@ pub enum Call {
         constants: usize,
         spacings: [f64; 4],
     },
-    SetMaterial {
+    PutBox {
         cells: [usize; 6],
-        numbers: [f64; 3],
+        what: Put,
     },
     AddMaterial(Material),
-    AssignBox {
-        id: u32,
-        cells: [usize; 6],
-    },
     AssignHalfspace {
         id: u32,
         k0: usize,
@@ -105,11 +101,22 @@ pub enum Call {
 }
 
 impl Call {
-    /// The call's name, for counting.
+    /// The call's name, for counting; a box by what is put into it.
     pub fn name(&self) -> String {
         let text = format!("{self:?}");
         let end = text.find(|c: char| !c.is_alphanumeric());
-        text[..end.unwrap_or(text.len())].to_string()
+        let what = match self {
+            Call::PutBox {
+                what: Put::Numbers(_),
+                ..
+            } => " of numbers",
+            Call::PutBox {
+                what: Put::Library(_),
+                ..
+            } => " of a material",
+            _ => "",
+        };
+        text[..end.unwrap_or(text.len())].to_string() + what
     }
 
     /// Whether it is the caller's own writing, and no call of the engine.
@@ -149,11 +156,12 @@ impl Study {
                 constants,
                 spacings,
             } => self.open(*sizes, *pole_slots, *constants, *spacings),
-            Call::SetMaterial { cells, numbers } => self.set_material(*cells, *numbers),
             Call::AddMaterial(m) => {
                 return self.counted(|study, id| study.add_material(&m.given(), id));
             }
-            Call::AssignBox { id, cells } => self.assign_material_box(*id, *cells),
+            Call::PutBox { cells, what } => {
+                return self.counted(|study, count| study.put_box(*cells, *what, count));
+            }
             Call::AssignHalfspace { id, k0 } => self.assign_material_halfspace_z(*id, *k0),
             Call::BuildDispersion => self.build_dispersion(),
             Call::SetPeriodic(axes) => self.set_periodic(*axes),

@@ -1,6 +1,7 @@
 //! Which study, and which call comes next.
 
 use crate::call::{Call, Numbers};
+use crate::engine::Put;
 use crate::engine::block::{Material, Pole, Record, Region};
 use crate::fill::{Fill, STORES, Store, tables};
 #[cfg(original)]
@@ -112,17 +113,17 @@ impl Chooser {
                 Call::Run((0..samples).map(|_| random.number(1.0, self.mix)).collect())
             }
             15 | 16 => Call::AddMaterial(self.material(random)),
-            17 | 18 => Call::AssignBox {
-                id: self.id(random, record),
+            17 | 18 => Call::PutBox {
+                what: Put::Library(self.id(random, record)),
                 cells: self.cells(random),
             },
             19 => Call::AssignHalfspace {
                 id: self.id(random, record),
                 k0: self.end(random, self.sizes[2]),
             },
-            20 => Call::SetMaterial {
+            20 => Call::PutBox {
                 cells: self.cells(random),
-                numbers: self.medium(random),
+                what: Put::Numbers(self.medium(random)),
             },
             21 | 22 => Call::BuildDispersion,
             23 => Call::SetPeriodic(axes(random)),

@@ -1,8 +1,8 @@
-//! Which refusal a call has to answer: document 01, "What each call turns down", read once more, and document 02's S-7.
+//! Which refusal a call has to answer: document 01, "What each call turns down", read once more, and document 02's S-5 and S-7.
 
 use crate::call::Call;
-use crate::engine::Study;
 use crate::engine::block::{self, MATERIAL, MATERIALS, PLACES, Record};
+use crate::engine::{Put, Study};
 use crate::save;
 
 pub const BAD_SIZE: u32 = 1;
@@ -188,8 +188,7 @@ fn all_fit(study: &Study, sizes: [usize; 3], pole_slots: usize) -> bool {
 /// Which stores a call is lent, by their places in `lengths`.
 pub fn lent(call: &Call) -> &'static [usize] {
     match call {
-        Call::SetMaterial { .. } => &[2],
-        Call::AssignBox { .. } | Call::AssignHalfspace { .. } => &[2, 8],
+        Call::PutBox { .. } | Call::AssignHalfspace { .. } => &[2, 8],
         Call::BuildDispersion => &[6],
         Call::Periodic | Call::Conductor | Call::Cpml { .. } => &[3, 4, 5],
         Call::Lossy { .. } => &[2, 3, 4, 5],
@@ -222,7 +221,11 @@ fn own(study: &Study, record: &Record, call: &Call) -> u32 {
     let [nx, ny, nz] = record.sizes;
     let region = |corners| when(!region_fits(record.sizes, corners), BAD_REGION);
     match call {
-        Call::AssignBox { id, .. } | Call::AssignHalfspace { id, .. } => {
+        Call::PutBox {
+            what: Put::Library(id),
+            ..
+        }
+        | Call::AssignHalfspace { id, .. } => {
             when(*id >= record.material_count.into(), NO_SUCH_MATERIAL)
         }
         Call::Lossy { order, .. } => when(*order > 8, BAD_ORDER),

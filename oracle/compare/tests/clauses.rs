@@ -93,9 +93,8 @@ fn the_program_calls_one_of_each_kind() {
         .collect();
     let kinds = [
         "open",
-        "set_material",
+        "put_box",
         "add_material",
-        "assign_material_box",
         "build_dispersion",
         "set_periodic",
     ];

@@ -1,7 +1,7 @@
 //! The lossy edge's conductivity against the original's: the power by halving against `powi`, the
 //! choice by `>` against `f64::max`. Where they part is listed in docs/DIFFERENCES.md.
 
-use compare::engine::{Study, cichowiej_powi, cichowiej_stronger, cichowiej_wall_sigma};
+use compare::engine::{Put, Study, cichowiej_powi, cichowiej_stronger, cichowiej_wall_sigma};
 
 /// The thickest layer is half of 512 cells.
 const THICKEST: usize = 256;
@@ -36,7 +36,8 @@ fn only_a_larger_wall_replaces() {
 fn line(n: usize, thickness: usize, order: usize, sigma_max: f64) -> Vec<f64> {
     let mut study = Study::lent([n, 1, 1], 0);
     assert_eq!(study.open([n, 1, 1], 0, 0, [1.0; 4]), 0);
-    assert_eq!(study.set_material([0, n, 0, 1, 0, 1], [1.0, 1.0, 7.0]), 0);
+    let what = Put::Numbers([1.0, 1.0, 7.0]);
+    assert_eq!(study.put_box([0, n, 0, 1, 0, 1], what, &mut []), 0);
     assert_eq!(study.set_boundary_lossy(thickness, order, sigma_max), 0);
     study.media[2 * n..].to_vec()
 }

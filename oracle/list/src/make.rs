@@ -3,6 +3,7 @@
 use phyz_em::cpml::CpmlConfig;
 
 use crate::call::{Call, Numbers};
+use crate::engine::Put;
 use crate::engine::block::{Material, Pole};
 use crate::fill::{Fill, STORES, Store, tables};
 use crate::studies::{Kind, Layer, Wall, Wave};
@@ -71,8 +72,8 @@ impl Kind {
     fn placed(&self, random: &mut Random, id: usize) -> Call {
         let [nx, ny, nz] = self.sizes;
         let k = id * nz / (self.tags.len() + 1);
-        Call::AssignBox {
-            id: id as u32,
+        Call::PutBox {
+            what: Put::Library(id as u32),
             cells: [random.index(nx), nx, random.index(ny), ny, k, nz],
         }
     }

@@ -3,7 +3,7 @@
 use crate::curve::plan::{Plan, Point};
 use crate::head::trouble::Trouble;
 use crate::head::{Edge, Wave, axes};
-use cichowiej::{Complex, Layer, Material, MaterialId, PlaneSpectrum, Refusal, Study};
+use cichowiej::{Complex, Layer, Material, MaterialId, PlaneSpectrum, Put, Refusal, Study};
 use rayon::prelude::*;
 use std::collections::BTreeMap;
 use std::sync::atomic::{AtomicBool, Ordering};
@@ -79,7 +79,7 @@ impl Plan<'_> {
         }
         if let Some(sheet) = &point.sheet {
             let id = study.add_material(&sheet.material).map_err(|refusal| Trouble::refused(&point.key, refusal))?;
-            study.assign_material_box(id, self.sheet).map_err(refused("sheet.cells"))?;
+            study.put_box(self.sheet, Put::Library(id)).map_err(refused("sheet.cells"))?;
         }
         study.build_dispersion().map_err(refused("grid"))?;
         self.set_wave(&mut study).map_err(refused("wave"))?;
@@ -104,7 +104,7 @@ impl Plan<'_> {
             let name = part.material.as_str();
             let id =
                 ids.get(name).ok_or_else(|| Trouble::at(format!("{key}.material"), format!("there is no material {name:?}")))?;
-            study.assign_material_box(*id, part.cells.cell_box()).map_err(|refusal| Trouble::refused(key, refusal))?;
+            study.put_box(part.cells.cell_box(), Put::Library(*id)).map_err(|refusal| Trouble::refused(key, refusal))?;
         }
         Ok(())
     }

@@ -252,7 +252,7 @@ impl<R: Read> Pieces<R> {
 mod tests {
     use super::*;
     use crate::digest::sha256;
-    use cichowiej::{CellBox, Constants, Grid, Material, Pole, Study};
+    use cichowiej::{CellBox, Constants, Grid, Material, Pole, Put, Study};
     use std::fs;
 
     fn open(cells: [usize; 3], pole_slots: usize) -> Study {
@@ -272,14 +272,14 @@ mod tests {
     #[test]
     fn a_box_is_found_in_its_cells() {
         let (a, mut b) = (open([2, 3, 4], 0), open([2, 3, 4], 0));
-        b.set_material(CellBox { x: (1, 2), y: (2, 3), z: (1, 4) }, 1.0, 1.0, 0.5).unwrap();
-        b.set_material(CellBox { x: (1, 2), y: (2, 3), z: (2, 3) }, 1.0, 1.0, -2.0).unwrap();
+        b.put_box(CellBox { x: (1, 2), y: (2, 3), z: (1, 4) }, Put::Numbers { eps_r: 1.0, mu_r: 1.0, sigma: 0.5 }).unwrap();
+        b.put_box(CellBox { x: (1, 2), y: (2, 3), z: (2, 3) }, Put::Numbers { eps_r: 1.0, mu_r: 1.0, sigma: -2.0 }).unwrap();
         let line = "CM  3 of 72 numbers differ; most: sigma at (1, 2, 2), 0.0 and -2.0, by 2e0; first: sigma at (1, 2, 1), 0.0 and 0.5, by 5e-1";
         assert_eq!(compared(&a, &b), [line]);
-        b.set_material(CellBox { x: (1, 2), y: (2, 3), z: (3, 4) }, 1.0, 1.0, f64::NAN).unwrap();
+        b.put_box(CellBox { x: (1, 2), y: (2, 3), z: (3, 4) }, Put::Numbers { eps_r: 1.0, mu_r: 1.0, sigma: f64::NAN }).unwrap();
         assert!(compared(&a, &b)[0].contains("most: sigma at (1, 2, 3), 0.0 and NaN, by inf;"), "{:?}", compared(&a, &b));
         let mut c = open([2, 3, 4], 0);
-        c.set_material(CellBox { x: (0, 1), y: (0, 1), z: (0, 1) }, 1.0, 1.0, -0.0).unwrap();
+        c.put_box(CellBox { x: (0, 1), y: (0, 1), z: (0, 1) }, Put::Numbers { eps_r: 1.0, mu_r: 1.0, sigma: -0.0 }).unwrap();
         assert!(compared(&a, &c)[0].contains("1 of 72 numbers differ; most: sigma at (0, 0, 0), 0.0 and -0.0, by 0e0"));
         assert_eq!(compared(&b, &b.clone()), ["the saves are equal"]);
     }
@@ -363,7 +363,7 @@ mod tests {
         assert_eq!(lines.len(), 3, "{lines:?}");
         assert!(lines[0].contains("1x1x9 and 1x9x1") && lines[1] == "GH  ny: 1 and 9" && lines[2] == "GH  nz: 9 and 1");
         let mut more = open([1, 1, 9], 2);
-        more.set_material(CellBox::planes(3, 4), 2.0, 1.0, 0.0).unwrap();
+        more.put_box(CellBox::planes(3, 4), Put::Numbers { eps_r: 2.0, mu_r: 1.0, sigma: 0.0 }).unwrap();
         let lines = compared(&open([1, 1, 9], 1), &more);
         assert!(lines[0] == "GH  pole slots: 1 and 2" && lines[1].starts_with("CM  1 of 27"), "{lines:?}");
         assert_eq!(lines[2..], ["PP  not compared: the numbers of pole slots differ"]);

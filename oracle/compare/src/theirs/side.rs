@@ -12,7 +12,7 @@ use original::tfsf::Tfsf;
 
 use crate::agree;
 use crate::call::Call;
-use crate::engine::{Answer, BEFORE, Study};
+use crate::engine::{Answer, BEFORE, Put, Study};
 use crate::{judge, save};
 
 pub use arrays::built_tables;
@@ -104,15 +104,17 @@ impl Side {
                 constants,
                 spacings,
             } => *self = Self::open(*sizes, *pole_slots, *constants, *spacings),
-            Call::SetMaterial { cells, numbers } => {
-                let ([i0, i1, j0, j1, k0, k1], [eps_r, mu_r, sigma]) = (*cells, *numbers);
-                grid.set_material((i0, i1), (j0, j1), (k0, k1), eps_r, mu_r, sigma);
+            Call::PutBox { cells, what } => {
+                let [i0, i1, j0, j1, k0, k1] = *cells;
+                match *what {
+                    Put::Numbers([eps_r, mu_r, sigma]) => {
+                        grid.set_material((i0, i1), (j0, j1), (k0, k1), eps_r, mu_r, sigma);
+                    }
+                    Put::Library(id) => grid.assign_material_box(id, (i0, i1), (j0, j1), (k0, k1)),
+                }
+                return set_by_original(self.record().sizes, *cells) as f64;
             }
             Call::AddMaterial(m) => return grid.add_material(original_material(m)).into(),
-            Call::AssignBox { id, cells } => {
-                let [i0, i1, j0, j1, k0, k1] = *cells;
-                grid.assign_material_box(*id, (i0, i1), (j0, j1), (k0, k1));
-            }
             Call::AssignHalfspace { id, k0 } => grid.assign_material_halfspace_z(*id, *k0),
             Call::BuildDispersion => self.build_dispersion(),
             Call::SetPeriodic(axes) => grid.set_periodic(*axes),
@@ -236,4 +238,14 @@ impl Side {
         let off = phyz_em::cpml::CpmlConfig::default().on_axes([false; 3]);
         self.expected.tables = built_tables(&self.record(), &off);
     }
+}
+
+/// How many cells of a fresh grid the original sets: those that then have a number that none had.
+fn set_by_original([nx, ny, nz]: [usize; 3], [i0, i1, j0, j1, k0, k1]: [usize; 6]) -> usize {
+    let mut fresh = YeeGrid::new_rect(nx, ny, nz, 1.0, 1.0, 1.0, 1.0);
+    fresh.set_material((i0, i1), (j0, j1), (k0, k1), 7.0, 1.0, 0.0);
+    let cells = (0..nz).flat_map(|k| (0..ny).flat_map(move |j| (0..nx).map(move |i| (i, j, k))));
+    cells
+        .filter(|(i, j, k)| fresh.eps_r.get(*i, *j, *k) == 7.0)
+        .count()
 }

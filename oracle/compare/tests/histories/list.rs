@@ -5,8 +5,8 @@ use crate::tally::Tally;
 use compare::call::{Bytes, Call};
 use compare::choose::Chooser;
 use compare::damage::{DAMAGES, Sound};
-use compare::engine::Study;
 use compare::engine::block::{LENGTH, Material, Pole, Record};
+use compare::engine::{Put, Study};
 use compare::{Random, judge, save, sound};
 
 pub struct List {
@@ -219,8 +219,8 @@ fn wrong(record: &Record) -> [Call; 10] {
         open(sizes, 5, 0, spacings),
         open(sizes, pole_slots, 2, spacings),
         Call::AddMaterial(material),
-        Call::AssignBox {
-            id: record.material_count.into(),
+        Call::PutBox {
+            what: Put::Library(record.material_count.into()),
             cells: [0; 6],
         },
         Call::Slab {

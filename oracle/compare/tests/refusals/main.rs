@@ -5,7 +5,7 @@ mod standing;
 use compare::call::{Call, Numbers};
 use compare::difference::{first_difference, untouched};
 use compare::engine::block::{self, Record};
-use compare::engine::{BEFORE, Study};
+use compare::engine::{BEFORE, Put, Study};
 use compare::judge::*;
 use compare::{EDGES, Random, SIGN, report, save};
 use standing::{CONSTANTS, SIZES, SLOTS, SPACINGS, calls, material, rewinding, study, tables};
@@ -349,8 +349,8 @@ fn refusals_of_single_calls() {
     let standing = study();
     let nowhere = [0; 6];
     for id in [4, 5, 16, u32::MAX] {
-        let cells = nowhere;
-        due(&standing, &Call::AssignBox { id, cells }, NO_SUCH_MATERIAL);
+        let (cells, what) = (nowhere, Put::Library(id));
+        due(&standing, &Call::PutBox { cells, what }, NO_SUCH_MATERIAL);
         due(
             &standing,
             &Call::AssignHalfspace { id, k0: 9 },

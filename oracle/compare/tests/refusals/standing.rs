@@ -1,8 +1,8 @@
 //! A study with something of everything in it, and a call of every kind that it accepts.
 
 use compare::call::{Bytes, Call, Numbers};
-use compare::engine::Study;
 use compare::engine::block::{Material, Pole};
+use compare::engine::{Put, Study};
 use compare::fill::{Fill, STORES, Store};
 use compare::{Mix, Random, save};
 
@@ -94,12 +94,15 @@ pub fn calls() -> Vec<Call> {
     vec![
         opening(),
         rewinding(),
-        Call::SetMaterial {
+        Call::PutBox {
             cells,
-            numbers: [2.0, 1.0, 0.5],
+            what: Put::Numbers([2.0, 1.0, 0.5]),
         },
         Call::AddMaterial(material(&[2, 3])),
-        Call::AssignBox { id: 1, cells },
+        Call::PutBox {
+            cells,
+            what: Put::Library(1),
+        },
         Call::AssignHalfspace { id: 2, k0: 2 },
         Call::BuildDispersion,
         Call::SetPeriodic([false, true, false]),

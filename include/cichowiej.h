@@ -19,8 +19,8 @@
  *   - in every call but an opening and a rewind: BAD_STUDY for a block that is no record, before anything else is looked at (another
  *     length, a flag that is not 0 or 1, another region kind, a counted place with another tag, bytes that have to be zero and are not);
  *   - then what the record says: BAD_SIZE, BAD_SPACING, BAD_STUDY (constants, pole slots, a count or a region's corners out of range,
- *     more poles in a material than slots or any in material 0, an active axis with the layer off); then BAD_STORE for what is lent;
- *     then the call's own, which stand beside it in their order;
+ *     more poles in a material than slots or any in material 0, a pole that is BAD_POLE with the record's dt and constants, an active
+ *     axis with the layer off); then BAD_STORE for what is lent; then the call's own, which stand beside it in their order;
  *   - an opening and a rewind do not look at what the block holds: their arguments are judged first, and last, as BAD_STORE, the
  *     lengths of stores and block.
  *
@@ -77,9 +77,11 @@ extern "C" {
 #define CICHOWIEJ_NO_ROOM 12         /* fewer bytes lent than the save takes: ask cichowiej_save_length */
 #define CICHOWIEJ_SHORT 13           /* the save is cut off: copy it anew, whole */
 #define CICHOWIEJ_BAD_MARK 14        /* another mark where a part of the save has to begin: no save, or a damaged one */
-#define CICHOWIEJ_BAD_RECORD 15      /* a part of another length, or with a field or a NaN that no save has: a damaged save */
+#define CICHOWIEJ_BAD_RECORD 15      /* a part of another length, or with a field or a NaN that no save has: a damaged save. Or a pole that
+                                        is BAD_POLE: libraries before this refusal saved such ones */
 #define CICHOWIEJ_TRAILING 16        /* bytes behind the save's end: hand over the save alone */
 #define CICHOWIEJ_NO_SUCH_PLANE 17   /* k is at or above nz */
+#define CICHOWIEJ_BAD_POLE 19        /* a1, a2 or a3 is not finite: a relaxation time of 0, say, or a number far too large */
 
 /* ---- sets of constants: which eps0, mu0 and c0 a study has, chosen as it is opened */
 #define CICHOWIEJ_CONSTANTS_OLD 0  /* the older SI values: cichowiej_eps0 and its like */
@@ -190,15 +192,17 @@ double cichowiej_root(double x);
 double cichowiej_cfl_number(double c0, double dx, double dy, double dz, double dt);
 double cichowiej_max_stable_dt(double c0, double dx, double dy, double dz, double dt);
 bool cichowiej_is_stable(double c0, double dx, double dy, double dz, double dt);
-/* a1, a2, a3 of a pole into out, whose length is CICHOWIEJ_COEFFS_LENGTH; false, and nothing written, for another length or a tag that is
-   none of the three. What first, second and third are stands beside the tags; cichowiej_lorentz_coeffs and its like name them */
-bool cichowiej_ade_coeffs(uint32_t tag, double first, double second, double third, double eps0, double dt, double *out,
-                          size_t out_length);
 double cichowiej_powi(double u, size_t n);
 /* sigma_max ((t - d) / t)^order at d cells from a wall whose layer is t cells thick, +0.0 beyond it */
 double cichowiej_wall_sigma(size_t t, size_t order, double sigma_max, size_t d);
 /* v where v > s, else s */
 double cichowiej_stronger(double s, double v);
+
+/* ---- a pole's a1, a2, a3 into out. BAD_STORE for another out_length than COEFFS_LENGTH, BAD_STUDY for a tag that is none of the three,
+   BAD_POLE where one of the numbers is not finite; nothing is then written. What first, second and third are stands beside the tags;
+   cichowiej_lorentz_coeffs and its like name them */
+uint32_t cichowiej_ade_coeffs(uint32_t tag, double first, double second, double third, double eps0, double dt, double *out,
+                              size_t out_length);
 
 /* ---- opening. Block and stores may hold anything before, and are written whole: fields, memories, poles and line +0.0, eps_r and mu_r
    1.0, sigma +0.0, ids 0, in the tables kinv 1.0, b and c +0.0; material 0, vacuum, alone; nothing periodic or active, the layer and
@@ -213,7 +217,8 @@ uint32_t cichowiej_open(uint8_t *block, size_t block_length, size_t nx, size_t n
 /* ---- materials. Boxes hold the cells from i0 up to, not with, i1, and likewise on y and z; upper ends are cut to the grid, and an empty
    or backward range holds no cell */
 /* puts a material behind those that stand, and its id into id; no cell has it yet, and what is built stays. After the record's own
-   faults: BAD_STORE for another length of the material's bytes, BAD_STUDY for bytes that are no material, TOO_MANY_POLES, FULL */
+   faults: BAD_STORE for another length of the material's bytes, BAD_STUDY for bytes that are no material, TOO_MANY_POLES, BAD_POLE with
+   the study's dt and constants, FULL */
 uint32_t cichowiej_add_material(uint8_t *block, size_t block_length, const uint8_t *material, size_t material_length, uint32_t *id,
                                 size_t id_length);
 /* puts three numbers or, where library is true, a material into each cell of the box; how many cells these are, those that had it already
@@ -412,8 +417,10 @@ static inline size_t cichowiej_table_place(size_t nx, size_t ny, size_t nz, uint
     return 6 * before + part * along + at;
 }
 
-/* ---- a pole's coefficients. In a step eps0 is that of the study's constants */
+/* ---- a pole's coefficients: refusal is the answer of cichowiej_ade_coeffs, and where it is not ACCEPTED the three are 0.0. In a step
+   eps0 is that of the study's constants */
 typedef struct cichowiej_coeffs {
+    uint32_t refusal;
     double a1, a2, a3;
 } cichowiej_coeffs;
 
@@ -421,7 +428,7 @@ static inline cichowiej_coeffs cichowiej_coeffs_of(uint32_t tag, double first, d
 {
     double out[CICHOWIEJ_COEFFS_LENGTH] = {0.0, 0.0, 0.0};
     cichowiej_coeffs coeffs;
-    cichowiej_ade_coeffs(tag, first, second, third, eps0, dt, out, CICHOWIEJ_COEFFS_LENGTH);
+    coeffs.refusal = cichowiej_ade_coeffs(tag, first, second, third, eps0, dt, out, CICHOWIEJ_COEFFS_LENGTH);
     coeffs.a1 = out[0];
     coeffs.a2 = out[1];
     coeffs.a3 = out[2];

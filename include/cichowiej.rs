@@ -19,7 +19,7 @@ unsafe extern "C" {
     pub safe fn cichowiej_powi(u: f64, n: usize) -> f64;
     pub safe fn cichowiej_wall_sigma(t: usize, order: usize, sigma_max: f64, d: usize) -> f64;
     pub safe fn cichowiej_stronger(s: f64, v: f64) -> f64;
-    fn cichowiej_ade_coeffs(tag: u32, first: f64, second: f64, third: f64, eps0: f64, dt: f64, out: *mut f64, out_length: usize) -> bool;
+    fn cichowiej_ade_coeffs(tag: u32, first: f64, second: f64, third: f64, eps0: f64, dt: f64, out: *mut f64, out_length: usize) -> u32;
 }
 
 // An array is a pointer and the number of its elements.
@@ -120,8 +120,9 @@ macro_rules! call {
     ($f:ident, $($arguments:tt)*) => { call!(@ $f [] $($arguments)*) };
 }
 
-/// The three coefficients of a pole (tag 1 Lorentz, 2 Drude, 3 Debye) in `out`, or false.
-pub fn ade_coeffs(tag: u32, numbers: [f64; 3], eps0: f64, dt: f64, out: &mut [f64]) -> bool {
+/// The three coefficients of a pole (tag 1 Lorentz, 2 Drude, 3 Debye) in `out`, or a refusal's number: 4 for another length than three, 3 for another tag, 19 for a
+/// coefficient that is not finite.
+pub fn ade_coeffs(tag: u32, numbers: [f64; 3], eps0: f64, dt: f64, out: &mut [f64]) -> u32 {
     let [first, second, third] = numbers;
     call!(cichowiej_ade_coeffs, tag, first, second, third, eps0, dt, mut out,)
 }

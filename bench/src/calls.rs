@@ -4,7 +4,7 @@ use crate::clock::{best_and_median, heading, seconds, shown};
 use compare::call::Call;
 use compare::engine::block::{MATERIALS, Material, PLACES, Pole};
 use compare::engine::{Put, Study};
-use compare::judge::FULL;
+use compare::judge::{BAD_POLE, FULL};
 
 const SIZES: [usize; 3] = [1, 1, 64];
 const ROUNDS: usize = 9;
@@ -26,6 +26,13 @@ fn material() -> Material {
         pole_count: PLACES as u8,
         poles: vec![pole; PLACES],
     }
+}
+
+/// The same, and the last pole cannot be stepped.
+fn bad() -> Material {
+    let mut material = material();
+    material.poles[PLACES - 1].numbers[2] = f64::NAN;
+    material
 }
 
 /// Opened, with so many materials.
@@ -59,10 +66,11 @@ fn line(name: &str, materials: usize, due: u32, call: impl Fn(&mut Study) -> u32
 pub fn print() {
     let [nx, ny, nz] = SIZES;
     println!(
-        "small calls on {nx}x{ny}x{nz} cells with {MATERIALS} materials of {PLACES} poles; us, best of the rounds (median); the target is the most"
+        "small calls on {nx}x{ny}x{nz} cells with vacuum and {} materials of {PLACES} Lorentz poles; us, best of the rounds (median); the target is the most",
+        MATERIALS - 1
     );
     println!("{}", heading(["call", "ours", "", "", "target"]));
-    let (bytes, all) = (material().write(), MATERIALS);
+    let (bytes, bad, all) = (material().write(), bad().write(), MATERIALS);
     line("plane reading", all, 0, |study| {
         study.plane_reading(nz / 2, &mut [0.0])
     });
@@ -86,4 +94,10 @@ pub fn print() {
         study.put_box(whole, last, &mut [0])
     });
     line("save_length", all, 0, |study| study.save_length(&mut [0]));
+    line(
+        "add_material, refused: its last pole",
+        all - 1,
+        BAD_POLE,
+        |study| study.add_material(&bad, &mut [0]),
+    );
 }

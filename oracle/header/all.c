@@ -2,6 +2,7 @@
 #include "check.c"
 #include "held.c"
 
+#include "bad_poles.c"
 #include "bytes.c"
 #include "constants.c"
 #include "effects.c"

@@ -28,6 +28,7 @@ static const theme themes[] = {
     {"poles", poles},       {"lengths", lengths},   {"parts", parts},           {"tables", tables},     {"walls", walls},
     {"regions", regions},   {"effects", effects},   {"steps", steps},           {"saves", saves},       {"pointers", pointers},
     {"wrappers", wrappers}, {"bytes", bytes},       {"nans", nans},             {"overlap", overlap},   {"constants", constants},
+    {"bad_poles", bad_poles},
 };
 
 static bool named(const char *name, int count, char **names)

@@ -40,6 +40,8 @@ uint32_t axis_number(size_t axis);
 cichowiej_material plain(double eps_inf, double sigma, double mu_r);
 /* a material with one Debye pole */
 cichowiej_material debye(double delta_eps, double tau);
+/* where its tau stands in the bytes of a material: the second number of the first pole */
+#define AT_TAU (CICHOWIEJ_MATERIAL_AT_POLES + CICHOWIEJ_POLE_AT_SECOND)
 /* the same bits */
 bool same_bits(double a, double b);
 
@@ -50,6 +52,7 @@ void precedence(void);
 void record(void);
 void materials(void);
 void poles(void);
+void bad_poles(void);
 void lengths(void);
 void parts(void);
 void tables(void);

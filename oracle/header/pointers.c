@@ -14,7 +14,7 @@ static void no_room(void)
     CHECK(cichowiej_study_total_energy(s, NULL) == CICHOWIEJ_ACCEPTED && cichowiej_study_plane_reading(s, 0, NULL) == CICHOWIEJ_ACCEPTED);
     CHECK(cichowiej_study_save_length(s, NULL) == CICHOWIEJ_ACCEPTED && cichowiej_study_save(s, NULL, 0) == CICHOWIEJ_NO_ROOM);
     CHECK(cichowiej_study_rewind(s, NULL, 0) == CICHOWIEJ_SHORT);
-    CHECK(!cichowiej_ade_coeffs(CICHOWIEJ_DEBYE, 1.0, 1.0, 0.0, 1.0, 1.0, NULL, 0));
+    CHECK(cichowiej_ade_coeffs(CICHOWIEJ_DEBYE, 1.0, 1.0, 0.0, 1.0, 1.0, NULL, 0) == CICHOWIEJ_BAD_STORE);
     CHECK(cichowiej_set_periodic(NULL, 0, true, true, true) == CICHOWIEJ_BAD_STUDY);
     CHECK(cichowiej_add_material(s->block, sizeof s->block, NULL, 0, NULL, 0) == CICHOWIEJ_BAD_STORE);
 }

@@ -5,7 +5,7 @@
 
 static bool same_coeffs(cichowiej_coeffs k, double a1, double a2, double a3)
 {
-    return same_bits(k.a1, a1) && same_bits(k.a2, a2) && same_bits(k.a3, a3);
+    return k.refusal == CICHOWIEJ_ACCEPTED && same_bits(k.a1, a1) && same_bits(k.a2, a2) && same_bits(k.a3, a3);
 }
 
 static void coefficients(void)
@@ -19,18 +19,55 @@ static void coefficients(void)
     CHECK(same_coeffs(cichowiej_debye_coeffs(delta_eps, tau, eps0, DT), 1.0 - DT / tau, 0.0, eps0 * delta_eps * DT / tau));
 }
 
-/* a room of another length or another tag: false, and nothing written */
+/* a Debye pole, in room for so many numbers */
+static uint32_t coeffs_into(double *out, size_t length, uint32_t tag, double tau)
+{
+    return cichowiej_ade_coeffs(tag, 2.0, tau, 0.0, 1.0, 1.0, out, length);
+}
+
+/* a room of another length, another tag, a pole that cannot be stepped, in this order: nothing is written */
 static void no_coefficients(void)
 {
-    double out[CICHOWIEJ_COEFFS_LENGTH + 1] = {0.0};
-    out[0] = 77.0;
-    CHECK(!cichowiej_ade_coeffs(CICHOWIEJ_DEBYE, 1.0, 1.0, 0.0, 1.0, 1.0, out, CICHOWIEJ_COEFFS_LENGTH - 1));
-    CHECK(!cichowiej_ade_coeffs(CICHOWIEJ_DEBYE, 1.0, 1.0, 0.0, 1.0, 1.0, out, CICHOWIEJ_COEFFS_LENGTH + 1));
-    CHECK(!cichowiej_ade_coeffs(CICHOWIEJ_NO_POLE, 1.0, 1.0, 0.0, 1.0, 1.0, out, CICHOWIEJ_COEFFS_LENGTH));
-    CHECK(!cichowiej_ade_coeffs(CICHOWIEJ_DEBYE + 1, 1.0, 1.0, 0.0, 1.0, 1.0, out, CICHOWIEJ_COEFFS_LENGTH));
-    CHECK(out[0] == 77.0);
-    CHECK(cichowiej_ade_coeffs(CICHOWIEJ_DEBYE, 1.0, 1.0, 0.0, 1.0, 1.0, out, CICHOWIEJ_COEFFS_LENGTH) && out[0] == 0.0);
-    CHECK(cichowiej_ade_coeffs(CICHOWIEJ_LORENTZ, 1.0, 1.0, 0.0, 1.0, 1.0, out, CICHOWIEJ_COEFFS_LENGTH) && out[0] == 1.0);
+    double out[CICHOWIEJ_COEFFS_LENGTH + 1];
+    size_t at;
+    for (at = 0; at < LENGTH(out); at++)
+        out[at] = 77.0;
+    CHECK(coeffs_into(out, CICHOWIEJ_COEFFS_LENGTH - 1, CICHOWIEJ_NO_POLE, 0.0) == CICHOWIEJ_BAD_STORE);
+    CHECK(coeffs_into(out, CICHOWIEJ_COEFFS_LENGTH + 1, CICHOWIEJ_NO_POLE, 0.0) == CICHOWIEJ_BAD_STORE);
+    CHECK(coeffs_into(out, CICHOWIEJ_COEFFS_LENGTH - 1, CICHOWIEJ_DEBYE, 0.0) == CICHOWIEJ_BAD_STORE);
+    CHECK(coeffs_into(out, CICHOWIEJ_COEFFS_LENGTH + 1, CICHOWIEJ_DEBYE, 1.0) == CICHOWIEJ_BAD_STORE);
+    CHECK(coeffs_into(out, CICHOWIEJ_COEFFS_LENGTH, CICHOWIEJ_NO_POLE, 0.0) == CICHOWIEJ_BAD_STUDY);
+    CHECK(coeffs_into(out, CICHOWIEJ_COEFFS_LENGTH, CICHOWIEJ_DEBYE + 1, 1.0) == CICHOWIEJ_BAD_STUDY);
+    CHECK(coeffs_into(out, CICHOWIEJ_COEFFS_LENGTH, CICHOWIEJ_DEBYE, 0.0) == CICHOWIEJ_BAD_POLE);
+    for (at = 0; at < LENGTH(out); at++)
+        CHECK(out[at] == 77.0);
+    CHECK(coeffs_into(out, CICHOWIEJ_COEFFS_LENGTH, CICHOWIEJ_DEBYE, 1.0) == CICHOWIEJ_ACCEPTED && out[0] == 0.0);
+    CHECK(coeffs_into(out, CICHOWIEJ_COEFFS_LENGTH, CICHOWIEJ_LORENTZ, 1.0) == CICHOWIEJ_ACCEPTED && out[0] == 1.0 && out[3] == 77.0);
+}
+
+/* by the helpers: the refusal, and three zeros */
+static bool no_coeffs(cichowiej_coeffs k, uint32_t refusal)
+{
+    return k.refusal == refusal && same_bits(k.a1, 0.0) && same_bits(k.a2, 0.0) && same_bits(k.a3, 0.0);
+}
+
+static void no_coefficients_by_name(void)
+{
+    CHECK(no_coeffs(cichowiej_lorentz_coeffs(2.0, 1.0, -2.0, 1.0, 1.0), CICHOWIEJ_BAD_POLE));
+    CHECK(no_coeffs(cichowiej_drude_coeffs(1.0, -2.0, 1.0, 1.0), CICHOWIEJ_BAD_POLE));
+    CHECK(no_coeffs(cichowiej_debye_coeffs(2.0, 0.0, 1.0, 1.0), CICHOWIEJ_BAD_POLE));
+    CHECK(no_coeffs(cichowiej_coeffs_of(CICHOWIEJ_NO_POLE, 2.0, 1.0, 1.0, 1.0, 1.0), CICHOWIEJ_BAD_STUDY));
+}
+
+/* one that is not finite is enough: a1 by the square of omega0, a2 by gamma dt, a3 by the square of omega_p */
+static void one_of_three(void)
+{
+    CHECK(cichowiej_lorentz_coeffs(0.0, 1e160, 0.5, 1.0, 1.0).refusal == CICHOWIEJ_BAD_POLE);
+    CHECK(cichowiej_lorentz_coeffs(0.0, 1e150, 0.5, 1.0, 1.0).refusal == CICHOWIEJ_ACCEPTED);
+    CHECK(cichowiej_drude_coeffs(1.0, 1e308, 1.0, 2.0).refusal == CICHOWIEJ_BAD_POLE);
+    CHECK(cichowiej_drude_coeffs(1.0, 1e308, 1.0, 1.0).refusal == CICHOWIEJ_ACCEPTED);
+    CHECK(cichowiej_drude_coeffs(1e160, 0.5, 1.0, 1.0).refusal == CICHOWIEJ_BAD_POLE);
+    CHECK(cichowiej_drude_coeffs(1e150, 0.5, 1.0, 1.0).refusal == CICHOWIEJ_ACCEPTED);
 }
 
 static cichowiej_material four_poles(void)
@@ -107,6 +144,8 @@ void poles(void)
 {
     coefficients();
     no_coefficients();
+    no_coefficients_by_name();
+    one_of_three();
     stepped();
     not_built();
 }

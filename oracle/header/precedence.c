@@ -51,7 +51,7 @@ static void block_length(void)
     CHECK(cichowiej_set_periodic(s->block, CICHOWIEJ_BLOCK_LENGTH, true, true, true) == CICHOWIEJ_ACCEPTED);
 }
 
-/* the record's own, the bytes' length, bytes that are no material, TOO_MANY_POLES, FULL */
+/* the record's own, the bytes' length, bytes that are no material, TOO_MANY_POLES, BAD_POLE, FULL */
 static void adding(void)
 {
     cichowiej_study *s = opened_whole();
@@ -61,6 +61,7 @@ static void adding(void)
     for (count = 1; count < CICHOWIEJ_MAX_MATERIALS; count++)
         CHECK(cichowiej_study_add_material(s, &wet, NULL) == CICHOWIEJ_ACCEPTED);
     wet.pole_count = 2;
+    wet.poles[0].tau = 0.0;
     wet.poles[1] = wet.poles[0];
     wet.poles[1].tag = 9;
     cichowiej_pack_material(&wet, bytes);
@@ -72,6 +73,8 @@ static void adding(void)
     wet.poles[1].tag = CICHOWIEJ_DEBYE;
     CHECK(cichowiej_study_add_material(s, &wet, NULL) == CICHOWIEJ_TOO_MANY_POLES);
     wet.pole_count = 1;
+    CHECK(cichowiej_study_add_material(s, &wet, NULL) == CICHOWIEJ_BAD_POLE);
+    wet.poles[0].tau = 3.0;
     CHECK(cichowiej_study_add_material(s, &wet, NULL) == CICHOWIEJ_FULL);
 }
 

@@ -32,6 +32,9 @@ static void of_materials(void)
     wet.poles[1] = wet.poles[0];
     CHECK(cichowiej_study_add_material(s, &wet, &id) == CICHOWIEJ_TOO_MANY_POLES && id == 0);
     wet.pole_count = 1;
+    wet.poles[0].tau = 0.0;
+    CHECK(cichowiej_study_add_material(s, &wet, &id) == CICHOWIEJ_BAD_POLE && id == 0);
+    wet.poles[0].tau = 3.0;
     CHECK(cichowiej_study_put_box(s, 0, 0, 0, 0, 0, 0, cichowiej_library(1), &cells) == CICHOWIEJ_NO_SUCH_MATERIAL && cells == 0);
     CHECK(cichowiej_study_add_material(s, &wet, &id) == CICHOWIEJ_ACCEPTED && id == 1);
     CHECK(cichowiej_study_put_box(s, 0, 0, 0, 0, 0, 0, cichowiej_library(1), NULL) == CICHOWIEJ_ACCEPTED);

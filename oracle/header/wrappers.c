@@ -1,4 +1,5 @@
-/* Each wrapper does what the function does to which the stores are listed, and hands over the length of every store that it lends. */
+/* Each wrapper does what the function does to which the stores are listed, and hands over the length of every store that it lends; and by
+   each a block is refused that has a pole which cannot be stepped. */
 #include "check.h"
 
 #define BLOCK s->block, CICHOWIEJ_BLOCK_LENGTH
@@ -144,6 +145,29 @@ static void each_length(size_t which)
     }
 }
 
+/* 0, or what stood there before the call */
+static bool silent(const answer *to)
+{
+    static answer before;
+    memset(&before, 77, sizeof before);
+    return (to->number == 0 || to->number == before.number) && (to->length == 0 || to->length == before.length)
+           && (same_bits(to->reading, 0.0) || same_bits(to->reading, before.reading)) && memcmp(to->save, before.save, SAVE) == 0;
+}
+
+/* with a relaxation time of 0 in its material the block is BAD_STUDY, and nothing is written; an opening and a rewind do not look at it */
+static void bad_pole_in(size_t which)
+{
+    const size_t tau = CICHOWIEJ_AT_MATERIALS + CICHOWIEJ_MATERIAL_LENGTH + AT_TAU;
+    const bool looks_at_it = calls[which].wrapped != wrapped_open && calls[which].wrapped != wrapped_rewind;
+    static answer to;
+    memset(&to, 77, sizeof to);
+    copy_held(&by_wrapper, &in_use);
+    cichowiej_put_double(by_wrapper.study.block + tau, 0.0);
+    copy_held(&by_list, &by_wrapper);
+    CHECK(calls[which].wrapped(&by_wrapper.study, &to) == (looks_at_it ? CICHOWIEJ_BAD_STUDY : CICHOWIEJ_ACCEPTED));
+    CHECK(!looks_at_it || (same_held(&by_wrapper, &by_list) && silent(&to)));
+}
+
 void wrappers(void)
 {
     size_t which;
@@ -151,5 +175,6 @@ void wrappers(void)
     for (which = 0; which < LENGTH(calls); which++) {
         both_ways(which);
         each_length(which);
+        bad_pole_in(which);
     }
 }

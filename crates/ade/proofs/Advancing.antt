@@ -5,10 +5,10 @@ use native.Mathlib.Omega.{arith}
 use mathlib.Core.Path.{_≡_, refl, sym, ap, _∙_}
 use mathlib.Core.Bool.{Bool, true, false, cond, _&&_}
 use mathlib.Core.List.{List, [], _∷_}
-use lib.Dec.{leb, ltb, eqb}
+use lib.Dec.{ltb, eqb}
 use lib.ListN.{length, getD, replicate, length-replicate, getD-replicate}
 use lib.Ieee.{Float, nan}
-use borrow.Author.Tests.{ltb-true, ltb-false, leb-true, eqb-true, eqb-false, lt-ltb, le-ltb, eq-eqb, ne-eqb}
+use borrow.Author.Tests.{ltb-true, ltb-false, eqb-true, eqb-false, lt-ltb, le-ltb, eq-eqb, ne-eqb}
 use Rattle.root.specs.Rounded.{_⊕_, _⊖_, zeroF, summed}
 use Rattle.codec.specs.Lists.{put}
 use Rattle.codec.proofs.Lists.{put-length, put-before, put-inside}
@@ -22,7 +22,7 @@ use Rattle.grid.specs.declared.Record.{Record}
 use Rattle.grid.specs.Fault.{poleCount, polesFit, countsFit, layerFits, regionFits, sizeFits, spacingsFit, studyFits, faultOf}
 use Rattle.grid.proofs.Tests.{and-left, and-right, first-none}
 use Rattle.grid.specs.Stores.{numberAt, cells}
-use Rattle.grid.proofs.Judging.{all-fails}
+use Rattle.grid.proofs.Judging.{poles-at}
 use Rattle.ade.specs.Polarization.{polarized, poleAt, poleCountAt, pOld, pPrev, pNew, pAfter, pPrevAfter, dpAfter, poleNumber, polesAfter}
 use Rattle.ade.specs.Inner.Runs.{PolesReady, PolesRoom, coeffAt, Table, Counts, moved, through, Changed, fieldAt, byCell}
 use Rattle.ade.proofs.Columns.{moved-same}
@@ -284,17 +284,6 @@ fit-of r e =
     let study = first-none (studyFits r) 2 0 (spacing .1) in
     and-right (countsFit r) (polesFit r) (and-left (countsFit r && polesFit r) layer (and-left (countsFit r && polesFit r && layer) region (study .0)))
 
-fit-at : (r : Record) (i : ℕ) → polesFit r ≡ true → i < r .«material_count» → poleCount r i ≤ r .«pole_slots»
-unfolding polesFit
-fit-at r i fit h = go (leb (poleCount r i) (r .«pole_slots»)) refl
-  where
-    go : (b : Bool) → leb (poleCount r i) (r .«pole_slots») ≡ b → poleCount r i ≤ r .«pole_slots»
-    go true e = leb-true (poleCount r i) (r .«pole_slots») e
-    go false e =
-        let w = all-fails (λ k. leb (poleCount r k) (r .«pole_slots»)) i (r .«material_count») h e in
-        let z : _≡_ {A = ℕ} 0 1 = cc in
-        absurd (omega arith)
-
 module _ (eps0 : Float) (r : Record) (ids : List ℕ) (electric old : List Float) (ready : PolesReady r ids electric old) where
   abbrev N : ℕ
   N = cells r
@@ -356,12 +345,12 @@ module _ (eps0 : Float) (r : Record) (ids : List ℕ) (electric old : List Float
           let first : AsG eps0 r ids electric old m 0 (λ y. numberAt start N y m) = λ y hy. ap (λ (l : List Float). numberAt l N y m) e ∙ at-first m hm y hy in
           t .done n m (omega arith) hm hm
           ∙ ap (λ (c : ℕ). through k Slots (fieldAt electric N m) c (λ y. numberAt start N y m) n) (count-is .each id hi)
-          ∙ all-passes eps0 r ids electric old m k (λ y. numberAt start N y m) (fit-at r id (ready .fit) hi) (λ s hs. table .each id s hi hs) first (poleCount r id) (omega arith) n hn
+          ∙ all-passes eps0 r ids electric old m k (λ y. numberAt start N y m) (poles-at r id (ready .fit) hi) (λ s hs. table .each id s hi hs) first (poleCount r id) (omega arith) n hn
           ∙ all-done eps0 r ids electric old m n hn
 
   -- what the tables and the cells ask
   pub few-poles : (i : ℕ) → i < M → poleCount r i ≤ 4
-  few-poles i h = omega (arith, fit-at r i (ready .fit) h)
+  few-poles i h = omega (arith, poles-at r i (ready .fit) h)
 
   pub room : (start : List Float) → length start ≡ length old → PolesRoom N Slots electric start
   room start e = record {
@@ -373,4 +362,4 @@ module _ (eps0 : Float) (r : Record) (ids : List ℕ) (electric old : List Float
   pub known-counts : (counts : List ℕ) → Counts r M counts → (m : ℕ) → m < N → (getD ids m 0 < 16) × (getD counts (getD ids m 0) 0 ≤ Slots)
   known-counts counts p m h =
       let hi : getD ids m 0 < M = ready .known m h in
-      (omega arith, omega (arith, p .each (getD ids m 0) hi, fit-at r (getD ids m 0) (ready .fit) hi))
+      (omega arith, omega (arith, p .each (getD ids m 0) hi, poles-at r (getD ids m 0) (ready .fit) hi))

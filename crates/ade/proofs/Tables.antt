@@ -1,9 +1,9 @@
 -- The table of coefficients, the counts of poles and the ends of runs, one entry or place at a time. Assumes nothing.
-use Prim.Native.Nat.{ℕ, zero, suc, _+_, _*_, _≤_, _<_}
+use Prim.Native.Nat.{ℕ, _+_, _*_, _≤_, _<_}
 use native.Mathlib.Omega.{arith}
 use mathlib.Core.Path.{_≡_, refl, sym, ap, _∙_, subst}
 use mathlib.Core.Bool.{Bool, true, false}
-use mathlib.Core.List.{List, [], _∷_}
+use mathlib.Core.List.{List}
 use lib.Dec.{eqb}
 use lib.ListN.{length, getD, set, length-set}
 use lib.Seq.{getD-set-same, getD-set-other}
@@ -12,17 +12,11 @@ use borrow.Author.Tests.{eqb-true, eqb-false}
 use Rattle.dispersion.specs.declared.AdeCoeffs.{AdeCoeffs}
 use Rattle.dispersion.specs.declared.DispersiveMaterial.{DispersiveMaterial}
 use Rattle.dispersion.specs.Ade.{adeCoeffs}
-use Rattle.dispersion.specs.Material.{blankSlot}
+use Rattle.dispersion.specs.Material.{poleIn}
 use Rattle.grid.specs.declared.Record.{Record}
 use Rattle.grid.specs.Fault.{beyond, poleCount}
 use Rattle.ade.specs.Polarization.{poleAt}
 use Rattle.ade.specs.Inner.Runs.{coeffAt, CoeffPut, Listed, Table, Counts, RunEnd}
-
--- within a list the default does not matter
-pub getD-within : {A : Type 0} (l : List A) (i : ℕ) (d e : A) → i < length l → getD l i d ≡ getD l i e
-getD-within [] i d e h = absurd (omega arith)
-getD-within (x ∷ l) zero d e h = refl
-getD-within (x ∷ l) (suc i) d e h = getD-within l i d e (omega arith)
 
 -- three numbers side by side
 module _ (co : List Float) (i : ℕ) (x y z : Float) where
@@ -71,14 +65,14 @@ pub listed-none : (eps0 dt : Float) (material : DispersiveMaterial) (i : ℕ) (s
 listed-none eps0 dt material i s = record { same = refl; here = λ slot h. absurd (omega arith); below = λ b h. refl }
 
 pub listed-more : (eps0 dt : Float) (material : DispersiveMaterial) (i z : ℕ) (k : AdeCoeffs) (old now new : List Float) → Listed eps0 dt material i z old now →
-    CoeffPut k (4 * i + z) now new → k ≡ adeCoeffs eps0 dt (getD (material .poles) z blankSlot .pole) → Listed eps0 dt material i (z + 1) old new
+    CoeffPut k (4 * i + z) now new → k ≡ adeCoeffs eps0 dt (poleIn material z) → Listed eps0 dt material i (z + 1) old new
 listed-more eps0 dt material i z k old now new p q e = record {
   same = q .same ∙ p .same;
   here = λ slot h. at slot h (eqb slot z) refl;
   below = λ b h. q .others b (λ w. let n : ⊥ = omega arith in n) ∙ p .below b h;
 }
   where
-    at : (slot : ℕ) → slot < z + 1 → (t : Bool) → eqb slot z ≡ t → coeffAt new (4 * i + slot) ≡ adeCoeffs eps0 dt (getD (material .poles) slot blankSlot .pole)
+    at : (slot : ℕ) → slot < z + 1 → (t : Bool) → eqb slot z ≡ t → coeffAt new (4 * i + slot) ≡ adeCoeffs eps0 dt (poleIn material slot)
     at slot h true w = rw (eqb-true slot z w) (q .here ∙ e)
     at slot h false w =
         q .others (4 * i + slot) (λ u. eqb-false slot z w (omega arith)) ∙ p .here slot (omega (arith, eqb-false slot z w))

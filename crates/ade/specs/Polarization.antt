@@ -10,10 +10,10 @@ use Rattle.root.specs.Rounded.{_⊕_, _⊖_, _⊗_, zeroF, summed}
 use Rattle.dispersion.specs.declared.Pole.{Pole}
 use Rattle.dispersion.specs.declared.AdeCoeffs.{AdeCoeffs}
 use Rattle.dispersion.specs.Ade.{adeCoeffs}
-use Rattle.dispersion.specs.Material.{blankSlot}
+use Rattle.dispersion.specs.Material.{poleIn}
 use Rattle.cells.specs.Cells.{joined, row}
 use Rattle.grid.specs.declared.Record.{Record}
-use Rattle.grid.specs.Fault.{beyond, poleCount}
+use Rattle.grid.specs.Fault.{materialAt, poleCount}
 use Rattle.grid.specs.Stores.{numberAt, cells}
 
 -- P(n+1) = a1 P(n) + a2 P(n-1) + a3 E(n)
@@ -21,7 +21,7 @@ unfoldable pub polarized : AdeCoeffs → (p prev e : Float) → Float
 polarized k p prev e = k .a1 ⊗ p ⊕ k .a2 ⊗ prev ⊕ k .a3 ⊗ e
 
 abbrev pub poleAt : Record → (id slot : ℕ) → Pole
-poleAt r id slot = getD (getD (r .materials) id beyond .poles) slot blankSlot .pole
+poleAt r id slot = poleIn (materialAt r id) slot
 
 module _ (eps0 : Float) (r : Record) (ids : List ℕ) (electric poles : List Float) where
   -- how many poles the material of the cell with the index m has; of material 0, vacuum, none (refusal 3 else)

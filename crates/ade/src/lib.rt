@@ -4,7 +4,7 @@ ghost use Prim.Native.Nat.{ℕ, _+_, _*_, _≤_, _<_};
 ghost use lib.ListN.{length, getD};
 ghost use Rattle.root.specs.Rounded.{_⊕_, _⊖_};
 ghost use Rattle.dispersion.specs.Ade.{adeCoeffs};
-ghost use Rattle.dispersion.specs.Material.{blankSlot};
+ghost use Rattle.dispersion.specs.Material.{poleIn};
 ghost use Rattle.grid.specs.Fault.{poleCount};
 ghost use Rattle.ade.specs.Polarization.{polarized, polesAfter};
 ghost use Rattle.ade.specs.Inner.Runs.{PolesReady, CoeffPut, Listed, Table, Counts, coeffs, storeMoved, Changed, bySpan, byThree, byRun, byCell, RunEnd, PolesRoom};
@@ -178,11 +178,11 @@ fn place(co: &mut [f64; 192], b: usize, k: AdeCoeffs)
 
 fn coeffs_of(eps0: f64, dt: f64, material: DispersiveMaterial, slot: usize) -> AdeCoeffs
     requires { ⌜ slot < 4 ⌝ }
-    ensures { λ k. ⌜ k ≡ adeCoeffs eps0 dt (getD (material .poles) slot blankSlot .pole) ⌝ }
+    ensures { λ k. ⌜ k ≡ adeCoeffs eps0 dt (poleIn material slot) ⌝ }
 {
     let held = material.poles[slot];
     let pole = held.pole;
-    pole.ade_coeffs(eps0, dt)
+    pole.ade_coeffs(eps0, dt).coeffs
 }
 
 // The coefficients of the poles of material i.

@@ -1,12 +1,11 @@
-// Constants and bare arithmetic: these refuse nothing.
+// Constants and bare arithmetic, which refuse nothing; and a pole's coefficients, which do.
 ghost use mathlib.Core.Path.{_≡_};
 ghost use Rattle.root.specs.Root.{Rooted};
 ghost use Rattle.root.specs.Constants as vacuum;
 ghost use Rattle.root.specs.Courant.{courantNumber, courantLimit, stable};
-ghost use Rattle.dispersion.specs.Ade.{adeCoeffs};
 ghost use Rattle.boundary.specs.Lossy.{power, wallSigma, stronger};
-ghost use Rattle.heads.specs.Numbers.{poleOf};
-ghost use Rattle.calls.specs.Poles.{coeffsAsked, coeffsOr};
+ghost use Rattle.calls.specs.Blocks.{readout};
+ghost use Rattle.calls.specs.Poles.{coeffsCall};
 use boundary::lossy;
 use calls::poles;
 use root::Spacings;
@@ -89,8 +88,7 @@ pub extern "C" fn cichowiej_is_stable(c0: f64, dx: f64, dy: f64, dz: f64, dt: f6
 
 // ---- the coefficients of a pole
 
-// Writes a1, a2, a3 and answers true; another tag than 1 to 3 or another length than 3 answers false
-// and writes nothing.
+// Writes a1, a2, a3 into the room; a refusal writes nothing.
 #[no_mangle]
 pub extern "C" fn cichowiej_ade_coeffs(
     tag: u32,
@@ -100,8 +98,8 @@ pub extern "C" fn cichowiej_ade_coeffs(
     eps0: f64,
     dt: f64,
     out: &mut [f64],
-) -> bool
-    ensures { λ r. ⌜ (r ≡ coeffsAsked tag (now (out .entry))) × (now (out .exit) ≡ coeffsOr r (adeCoeffs eps0 dt (poleOf tag first second third)) (now (out .entry))) ⌝ }
+) -> u32
+    ensures { λ n. ⌜ readout n (now (out .exit)) ≡ coeffsCall eps0 dt tag first second third (now (out .entry)) ⌝ }
 {
     poles::put_coeffs(tag, first, second, third, eps0, dt, out)
 }

@@ -16,14 +16,14 @@ use Rattle.cells.proofs.Blocks.{part-block}
 use Rattle.grid.specs.declared.Record.{Record}
 use Rattle.grid.specs.Canon.{canon}
 use Rattle.grid.specs.Fault.{beyond, faultOf}
-use Rattle.grid.proofs.Judging.{sound}
+use Rattle.grid.proofs.Judging.{sound, all-true}
 use Rattle.heads.specs.Numbers.{ghWidths, ghLength, ghNums, ghShaped, mlLength, mlShaped}
 use Rattle.heads.specs.Payloads.{headBytes, materialBytes, headOf, countOf, entryAt, recordOf}
 use Rattle.block.specs.Block.{blockLength, entryBytes, blockOf, entries, allZero, entryFine, blockFine, blockRecord}
 use Rattle.block.specs.Inner.Held.{Held}
 use Rattle.block.proofs.Turns.{bytes-long, block-parts}
 use Rattle.block.proofs.Entry.{material-shaped}
-use Rattle.block.proofs.Head.{all-true, head-fit, head-shaped}
+use Rattle.block.proofs.Head.{head-fit, head-shaped}
 use Rattle.block.proofs.Counted.{entry-is, record-back}
 
 module _ (r : Record) (ok : faultOf r ≡ 0) (h : Held r) where

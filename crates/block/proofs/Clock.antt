@@ -1,5 +1,5 @@
 -- A block with another clock put into it: a record's block still, and the record is the same but for the clock. Assumes nothing.
-use Prim.Native.Nat.{ℕ, zero, suc, _+_, _*_, _≤_, _<_}
+use Prim.Native.Nat.{ℕ, _+_, _*_, _≤_, _<_}
 use native.Mathlib.Omega.{arith}
 use mathlib.Core.Path.{_≡_, refl, sym, ap, _∙_}
 use mathlib.Core.Bool.{Bool, cond}
@@ -17,6 +17,7 @@ use Rattle.dispersion.specs.declared.DispersiveMaterial.{DispersiveMaterial}
 use Rattle.grid.specs.declared.Clock.{Clock}
 use Rattle.grid.specs.Edited.{withClock}
 use Rattle.grid.specs.Fault.{allBelow}
+use Rattle.grid.proofs.Judging.{all-same}
 use Rattle.heads.specs.Numbers.{flagsFine, cornersFine, ghShaped, ghOf, mlLength, mlShaped}
 use Rattle.heads.specs.Payloads.{headOf, countOf, entryAt, materialsOf}
 use Rattle.heads.specs.Inner.Parts.{planWidths, cornerWidths}
@@ -49,11 +50,6 @@ pastPlace = clockPlace + 12
 
 abbrev pastWidths : List ℕ
 pastWidths = 1 ∷ []
-
-all-same : (f g : ℕ → Bool) (n : ℕ) → ((i : ℕ) → f i ≡ g i) → allBelow f n ≡ allBelow g n
-unfolding allBelow
-all-same f g zero h = refl
-all-same f g (suc n) h = rw (all-same f g n h, h n)
 
 module _ (b : List ℕ) (c : Clock) (long : length b ≡ blockLength) where
   abbrev after : List ℕ
@@ -133,7 +129,7 @@ module _ (b : List ℕ) (c : Clock) (long : length b ≡ blockLength) where
 
     pub clock-fine : blockFine (clockPut c b) ≡ blockFine b
     unfolding blockFine
-    clock-fine = rw (after-long, shaped-same, all-same (entryFine after) (entryFine b) 16 entry-same, long) refl
+    clock-fine = rw (after-long, shaped-same, all-same (entryFine after) (entryFine b) 16 (λ i _. entry-same i), long) refl
 
     pub clock-record : blockRecord (clockPut c b) ≡ withClock (blockRecord b) c
     unfolding blockRecord ghOf nums

@@ -1,9 +1,7 @@
 -- The record itself as its twenty-seven numbers: they fit their widths, are found fine, and say the record again, without what means nothing. Assumes nothing.
-use Prim.Native.Nat.{ℕ, zero, suc, _≤_, _<_}
-use native.Mathlib.Nat.{eq-or-lt-of-le, le-of-suc-le-suc}
+use Prim.Native.Nat.{ℕ, _≤_, _<_}
 use native.Mathlib.Omega.{arith}
-use mathlib.Core.Path.{_≡_, refl, sym, subst}
-use mathlib.Core.Logic.{⊎-elim}
+use mathlib.Core.Path.{_≡_, refl, subst}
 use mathlib.Core.Bool.{Bool, true, false, _&&_, _||_}
 use mathlib.Core.List.{List, [], _∷_, map}
 use borrow.Author.Tests.{le-leb, leb-true, ltb-true}
@@ -23,7 +21,7 @@ use Rattle.grid.specs.declared.Record.{Record}
 use Rattle.grid.specs.Canon.{keepFirst, canonMaterial, regionBy, canonRegion, canon}
 use Rattle.grid.specs.Fault.{isAbsent, cornersFit, regionFits, openedFit, countsFit, polesFit, layerFits, studyFits, spacingsFit, sizeFits, poleCount, allBelow, faultOf}
 use Rattle.grid.specs.Inner.Sound.{Sound}
-use Rattle.grid.proofs.Judging.{sound, constants-of}
+use Rattle.grid.proofs.Judging.{sound, constants-of, poles-at}
 use Rattle.grid.proofs.Tests.{and-left, and-right, first-none}
 use Rattle.heads.specs.Numbers.{flagNum, kindNum, kindOf, ghWidths, flagNums, floatNums, ghNums, flagsFine, cornersFine, ghShaped, ghFine, ghOf}
 use Rattle.block.specs.Inner.Held.{Held}
@@ -52,22 +50,6 @@ built-of r e =
     let three = openedFit r && leb 1 (r .«material_count») && leb (r .«material_count») 16 in
     let built = leb (r .«built_count») (r .«material_count») in
     leb-true _ _ (and-right three built (and-left (three && built) (eqb (poleCount r 0) 0) e))
-
-pub all-at : (f : ℕ → Bool) (n i : ℕ) → allBelow f n ≡ true → i < n → f i ≡ true
-unfolding allBelow
-all-at f zero i e h = absurd (let z : ⊥ = omega arith in z)
-all-at f (suc n) i e h =
-    ⊎-elim (λ q. subst (λ (k : ℕ). f k ≡ true) (sym q) (and-right (allBelow f n) (f n) e)) (λ b. all-at f n i (and-left (allBelow f n) (f n) e) b)
-    (eq-or-lt-of-le (le-of-suc-le-suc h))
-
-pub all-true : (f : ℕ → Bool) (n : ℕ) → ((i : ℕ) → i < n → f i ≡ true) → allBelow f n ≡ true
-unfolding allBelow
-all-true f zero h = refl
-all-true f (suc n) h = rw (all-true f n (λ i l. h i (omega arith)), h n (omega arith))
-
-poles-of : (r : Record) (i : ℕ) → polesFit r ≡ true → i < r .«material_count» → poleCount r i ≤ r .«pole_slots»
-unfolding polesFit
-poles-of r i e h = leb-true _ _ (all-at (λ k. leb (poleCount r k) (r .«pole_slots»)) (r .«material_count») i e h)
 
 -- ---- the region
 record Corners (g : Region) : Type 0 where
@@ -153,7 +135,7 @@ module _ (r : Record) (ok : faultOf r ≡ 0) (h : Held r) where
   parts = parts-of r (study-of r ok)
 
   pub few-poles : (i : ℕ) → i < r .«material_count» → poleCount r i < 256
-  few-poles i l = let k = poles-of r i (parts .1) l in omega (arith, k, s .slots)
+  few-poles i l = let k = poles-at r i (parts .1) l in omega (arith, k, s .slots)
 
   corners : Corners (canonRegion (r .region))
   unfolding canonRegion

@@ -92,7 +92,7 @@ materialOf m = mlOf (entryOf m)
 
 -- the record's own faults, then the bytes', then what adding finds
 unfoldable pub addBytesFault : (material : List ℕ) → Record → ℕ
-addBytesFault m r = orElse (faultOf r) (orElse (materialFault m) (addFault r (materialOf m .«pole_count»)))
+addBytesFault m r = orElse (faultOf r) (orElse (materialFault m) (addFault r (materialOf m)))
 
 unfoldable pub addBytesCall : (material : List ℕ) → Record → Outcome ℕ
 addBytesCall m r = settle (addBytesFault m r) r 0 (added r (materialOf m)) (r .«material_count»)

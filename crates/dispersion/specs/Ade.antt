@@ -1,9 +1,13 @@
 -- The auxiliary differential equation (ADE) method for dispersive media (Taflove and Hagness): a pole's polarization P is stepped by
 --   P(n+1) = a1 P(n) + a2 P(n-1) + a3 E(n),
 -- each coefficient rounded in the Rust's order. Definitions only.
+use Prim.Native.Nat.{ℕ}
+use mathlib.Core.Bool.{Bool, cond, _&&_}
 use lib.Ieee.{Float, neg}
+use lib.Ieee.Scale.{finite}
 use Rattle.root.specs.Rounded.{_⊕_, _⊖_, _⊗_, _⊘_, zeroF, oneF, twoF}
 use Rattle.dispersion.specs.declared.AdeCoeffs.{AdeCoeffs}
+use Rattle.dispersion.specs.declared.Turned.{Turned}
 use Rattle.dispersion.specs.declared.Pole.{Pole}
 use Rattle.dispersion.specs.declared.Pole.the-variants.{Lorentz, Drude, Debye}
 
@@ -26,3 +30,14 @@ unfoldable pub adeCoeffs : (eps0 dt : Float) → Pole → AdeCoeffs
 adeCoeffs eps0 dt (Lorentz Δε ω0 γ) = secondOrder eps0 (Δε ⊗ ω0 ⊗ ω0) ω0 γ dt
 adeCoeffs eps0 dt (Drude ωp γ) = secondOrder eps0 (ωp ⊗ ωp) zeroF γ dt
 adeCoeffs eps0 dt (Debye Δε τ) = firstOrder eps0 Δε τ dt
+
+-- ---- 19 BadPole: a pole that cannot be stepped (document 02, S-2), since a1, a2 or a3 is infinite or NaN
+abbrev pub badPole : ℕ
+badPole = 19
+
+unfoldable pub poleSteps : (eps0 dt : Float) → Pole → Bool
+poleSteps eps0 dt p = let k = adeCoeffs eps0 dt p in finite (k .a1) && finite (k .a2) && finite (k .a3)
+
+-- a pole turned into its coefficients, with 19 where it cannot be stepped by them
+unfoldable pub turned : (eps0 dt : Float) → Pole → Turned
+turned eps0 dt p = record { refusal = cond (poleSteps eps0 dt p) 0 badPole; coeffs = adeCoeffs eps0 dt p }

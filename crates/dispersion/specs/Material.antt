@@ -1,8 +1,8 @@
 -- A material: what it answers at once, and its poles. Definitions only.
-use Prim.Native.Nat.{_+_}
+use Prim.Native.Nat.{ℕ, _+_}
 use mathlib.Core.Bool.{cond}
 use lib.Dec.{ltb}
-use lib.ListN.{replicate, set}
+use lib.ListN.{replicate, set, getD}
 use lib.Ieee.{Float}
 use Rattle.root.specs.Rounded.{zeroF, oneF}
 use Rattle.dispersion.specs.declared.DispersiveMaterial.{DispersiveMaterial}
@@ -13,6 +13,10 @@ use Rattle.dispersion.specs.declared.Pole.the-variants.{Debye}
 -- what stands in a place that no pole is counted in
 abbrev pub blankSlot : PoleSlot
 blankSlot = record { pole = Debye zeroF zeroF }
+
+-- the pole in a place
+abbrev pub poleIn : DispersiveMaterial → (slot : ℕ) → Pole
+poleIn m slot = getD (m .poles) slot blankSlot .pole
 
 -- no poles, no loss, not magnetic
 abbrev pub plain : Float → DispersiveMaterial

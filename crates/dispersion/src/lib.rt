@@ -1,10 +1,13 @@
 // Materials with poles, and the coefficients of the recursion that steps a pole's polarization.
 ghost use mathlib.Core.Path.{_≡_};
-ghost use Rattle.dispersion.specs.Ade.{secondOrder, adeCoeffs};
+ghost use lib.Ieee.Scale.{finite};
+ghost use Rattle.dispersion.specs.Ade.{secondOrder, adeCoeffs, turned};
 ghost use Rattle.dispersion.specs.Material.{blankSlot, vacuumMaterial, plain, onePole, pushed, conducting};
 
 // The pole places of a material.
 pub const MAX_POLES: usize = 4;
+
+pub const BAD_POLE: u32 = 19;
 
 pub enum Pole {
     Lorentz {
@@ -34,6 +37,12 @@ pub struct AdeCoeffs {
     pub a3: f64,
 }
 
+// A pole's coefficients as they are, and BAD_POLE where one of them is not finite.
+pub struct Turned {
+    pub refusal: u32,
+    pub coeffs: AdeCoeffs,
+}
+
 // The first pole_count places hold the poles; what stands in the others means nothing.
 pub struct DispersiveMaterial {
     pub eps_inf: f64,
@@ -54,8 +63,14 @@ fn second_order_coeffs(eps0: f64, a: f64, omega0: f64, gamma: f64, dt: f64) -> A
     }
 }
 
+fn is_finite(x: f64) -> bool
+    ensures { λ r. ⌜ r ≡ finite x ⌝ }
+{
+    (-1.0 / 0.0 < x) & (x < 1.0 / 0.0)
+}
+
 impl Pole {
-    pub fn ade_coeffs(self, eps0: f64, dt: f64) -> AdeCoeffs
+    fn coeffs(self, eps0: f64, dt: f64) -> AdeCoeffs
         ensures { λ r. ⌜ r ≡ adeCoeffs eps0 dt self ⌝ }
     {
         match self {
@@ -72,6 +87,17 @@ impl Pole {
                 a2: 0.0,
                 a3: eps0 * delta_eps * dt / tau,
             },
+        }
+    }
+
+    pub fn ade_coeffs(self, eps0: f64, dt: f64) -> Turned
+        ensures { λ r. ⌜ r ≡ turned eps0 dt self ⌝ }
+    {
+        let k = self.coeffs(eps0, dt);
+        let steps = is_finite(k.a1) & is_finite(k.a2) & is_finite(k.a3);
+        Turned {
+            refusal: if steps { 0 } else { BAD_POLE },
+            coeffs: k,
         }
     }
 }

@@ -28,12 +28,11 @@ use Rattle.grid.specs.Canon.{canon}
 use Rattle.grid.specs.Fault.{beyond, allBelow, faultOf}
 use Rattle.grid.specs.Stores.{storeLengths, lengthsOf}
 use Rattle.grid.proofs.Tests.{and-left, and-right, or-none}
-use Rattle.grid.proofs.Judging.{sound}
+use Rattle.grid.proofs.Judging.{sound, all-at}
 use Rattle.heads.specs.Numbers.{ghWidths, ghLength, ghNums, ghFine, ghOf, mlWidths, mlLength, mlFine, mlOf}
 use Rattle.heads.specs.Payloads.{materialBytes, headBy, countOf, entryAt, entryMaterial, materialsOf, recordOf}
 use Rattle.heads.proofs.Whole.{gh-total, ml-total}
 use Rattle.block.specs.Inner.Held.{Held}
-use Rattle.block.proofs.Head.{all-at}
 use Rattle.block.proofs.Again.{material-again, head-again}
 use Rattle.block.proofs.Decoded.{record-held as entries-held}
 use Rattle.format.specs.Records.{piece, framed, frames, Expected, expected, recordFault, recordsFault, payloadFrom}

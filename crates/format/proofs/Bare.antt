@@ -12,16 +12,20 @@ use Rattle.dispersion.specs.Material.{vacuumMaterial}
 use Rattle.grid.specs.declared.Record.{Record}
 use Rattle.grid.specs.Edited.{withMaterials}
 use Rattle.grid.specs.Stores.{storeLengths}
-use Rattle.grid.specs.Fault.{beyond, poleCount, sizeFits, spacingsFit, openedFit, countsFit, polesFit, layerFits, regionFits, studyFits, faultOf}
+use Rattle.grid.specs.Fault.{beyond, materialAt, poleCount, sizeFits, spacingsFit, allBelow, openedFit, countsFit, materialSteps, materialFits, polesFit, layerFits, regionFits, studyFits, faultOf}
 use Rattle.grid.proofs.Tests.{and-left, and-right, first-none}
 use Rattle.heads.specs.Numbers.{ghNums, ghOf}
-use Rattle.block.proofs.Head.{all-true}
+use Rattle.grid.proofs.Judging.{all-true}
 use Rattle.format.specs.Rewind.{bare}
 
 no-poles : (n i : ℕ) → getD (replicate n vacuumMaterial) i beyond .«pole_count» ≡ 0
 no-poles zero i = refl
 no-poles (suc n) zero = refl
 no-poles (suc n) (suc i) = no-poles n i
+
+no-pole-fits : (r : Record) (m : DispersiveMaterial) → m .«pole_count» ≡ 0 → materialFits r m ≡ true
+unfolding materialFits materialSteps allBelow
+no-pole-fits r m e = rw (e, le-leb 0 (r .«pole_slots») (omega arith))
 
 module _ (r : Record) where
   abbrev b : Record
@@ -35,7 +39,7 @@ module _ (r : Record) where
 
   bare-poles : polesFit b ≡ true
   unfolding polesFit
-  bare-poles = all-true (λ i. leb (poleCount b i) (r .«pole_slots»)) (r .«material_count») (λ i h. le-leb (poleCount b i) (r .«pole_slots») (omega (arith, no-poles 16 i)))
+  bare-poles = all-true _ (r .«material_count») (λ i h. no-pole-fits b (materialAt b i) (no-poles 16 i))
 
   bare-study : studyFits r ≡ true → studyFits b ≡ true
   unfolding studyFits

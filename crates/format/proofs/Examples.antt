@@ -7,7 +7,7 @@ use Rattle.codec.specs.Lists.{part}
 use Rattle.codec.specs.Bytes.{le, unle, enc, nums, fine}
 use Rattle.codec.specs.Frame.{frameBytes, frameFault}
 use Rattle.grid.specs.declared.Record.{Record}
-use Rattle.grid.specs.Fault.{sideFits, sidesFit, sizeFits, spacingsFit, allBelow, countsFit, polesFit, layerFits, regionFits, studyFits, faultOf}
+use Rattle.grid.specs.Fault.{sideFits, sidesFit, sizeFits, spacingsFit, allBelow, countsFit, materialSteps, materialFits, polesFit, layerFits, regionFits, studyFits, faultOf}
 use Rattle.heads.specs.Numbers.{oldWidths, oldLength, ghWidths, ghLength, flagsFine, cornersFine, ghShaped, ghFine, ghOf}
 use Rattle.format.specs.Records.{recordFault, recordsFault}
 use Rattle.format.specs.Save.{markGH, saveLength}
@@ -40,7 +40,7 @@ first-frame = (refl, refl, refl, refl, refl, refl)
 pub cut-after-head : (bytesFault (gh 5 0) ≡ 15) × (bytesFault (gh 4 0) ≡ 13) × (bytesFault (gh 4 1) ≡ 13) × (bytesFault (gh 4 2) ≡ 15)
     × (bytesFault (oldGh 5) ≡ 15) × (bytesFault (oldGh 4) ≡ 13) × (bytesFault (frameBytes markGH ghLength ++ enc oldWidths (head 4 0)) ≡ 13)
     × (bytesFault (frameBytes markGH ghLength ++ enc oldWidths (head 4 0) ++ (77 ∷ [])) ≡ 15)
-unfolding bytesFault isOld tableBy table recordsFault recordFault frameFault part enc le unle nums headGood bare ghFine ghShaped flagsFine cornersFine fine nanBits ghOf faultOf sizeFits sidesFit sideFits spacingsFit ofBits studyFits countsFit polesFit allBelow layerFits regionFits
+unfolding bytesFault isOld tableBy table recordsFault recordFault frameFault part enc le unle nums headGood bare ghFine ghShaped flagsFine cornersFine fine nanBits ghOf faultOf sizeFits sidesFit sideFits spacingsFit ofBits studyFits countsFit materialSteps materialFits polesFit allBelow layerFits regionFits
 cut-after-head = (refl, refl, refl, refl, refl, refl, refl, refl)
 
 -- a study of one cell, no pole slot and one material: 1,389 bytes

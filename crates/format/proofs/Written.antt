@@ -24,14 +24,14 @@ use Rattle.grid.specs.Canon.{keepFirst, canonMaterial, canon}
 use Rattle.grid.specs.Fault.{beyond, allBelow, faultOf}
 use Rattle.grid.specs.Inner.Sound.{Sound}
 use Rattle.grid.specs.Stores.{Stores, cells, storeLengths, lengthsOf}
-use Rattle.grid.proofs.Judging.{sound}
+use Rattle.grid.proofs.Judging.{sound, all-true}
 use Rattle.grid.proofs.Canonical.{canon-fault}
 use Rattle.heads.specs.Numbers.{ghWidths, ghLength, ghNums, ghFine, ghOf, mlWidths, mlLength, mlNums, mlFine}
 use Rattle.heads.specs.Payloads.{headBytes, materialBytes, headOf, countOf, entryAt, recordOf}
 use Rattle.heads.proofs.Whole.{gh-long, ml-long, gh-total, ml-total}
 use Rattle.block.specs.Inner.Held.{Held}
 use Rattle.block.proofs.Entry.{material-fine}
-use Rattle.block.proofs.Head.{all-true, head-fit, head-fine, head-back}
+use Rattle.block.proofs.Head.{head-fit, head-fine, head-back}
 use Rattle.block.proofs.Counted.{entry-is, record-back}
 use Rattle.format.specs.Records.{Piece, piece, framed, frames}
 use Rattle.format.specs.Save.{listBytes, pieces, saveBytes, saveLength}

@@ -1,21 +1,25 @@
 -- The canon of a record: taking it twice changes nothing, and it has the faults that the record has. Assumes nothing.
 use Prim.Native.Nat.{ℕ, zero, suc, _<_}
 use native.Mathlib.Nat.{not-suc-le-zero, le-of-suc-le-suc}
-use native.Mathlib.Omega.{arith}
-use mathlib.Core.Path.{_≡_, refl, ap}
-use mathlib.Core.Bool.{Bool, true, false, and-false}
+use mathlib.Core.Path.{_≡_, refl, ap, _∙_}
+use mathlib.Core.Bool.{Bool, true, false, _&&_, and-false}
 use mathlib.Core.List.{List, [], _∷_, map}
 use borrow.Author.Tests.{leb-true}
 use lib.Dec.{leb}
 use lib.ListN.{getD}
+use lib.Ieee.{Float}
 use Rattle.dispersion.specs.declared.DispersiveMaterial.{DispersiveMaterial}
-use Rattle.dispersion.specs.Material.{blankSlot, vacuumMaterial}
+use Rattle.dispersion.specs.declared.PoleSlot.{PoleSlot}
+use Rattle.dispersion.specs.Ade.{poleSteps}
+use Rattle.dispersion.specs.Material.{blankSlot, poleIn, vacuumMaterial}
 use Rattle.grid.specs.declared.RegionKind.{RegionKind}
 use Rattle.grid.specs.declared.RegionKind.the-variants.{Absent, SlabZ, InjectorZ, BoxRegion}
 use Rattle.grid.specs.declared.Region.{Region}
 use Rattle.grid.specs.declared.Record.{Record}
 use Rattle.grid.specs.Canon.{keepFirst, canonMaterial, regionBy, canonRegion, canon}
-use Rattle.grid.specs.Fault.{beyond, poleCount, allBelow, openedFit, countsFit, polesFit, regionFits, studyFits, faultOf}
+use Rattle.grid.specs.Vacuum.{epsOf}
+use Rattle.grid.specs.Fault.{beyond, materialAt, poleCount, openedFit, countsFit, materialSteps, materialFits, polesFit, regionFits, studyFits, faultOf}
+use Rattle.grid.proofs.Judging.{all-same}
 
 -- ---- twice
 keep-twice : {A : Type 0} (n : ℕ) (d : A) (l : List A) → keepFirst n d (keepFirst n d l) ≡ keepFirst n d l
@@ -24,7 +28,7 @@ keep-twice n d [] = refl
 keep-twice {A} zero d (x ∷ l) = ap (λ (t : List A). d ∷ t) (keep-twice zero d l)
 keep-twice {A} (suc n) d (x ∷ l) = ap (λ (t : List A). x ∷ t) (keep-twice n d l)
 
-material-twice : (m : DispersiveMaterial) → canonMaterial (canonMaterial m) ≡ canonMaterial m
+pub material-twice : (m : DispersiveMaterial) → canonMaterial (canonMaterial m) ≡ canonMaterial m
 unfolding canonMaterial
 material-twice m = rw (keep-twice (m .«pole_count») blankSlot (m .poles))
 
@@ -49,29 +53,47 @@ pub canon-twice : (r : Record) → canon (canon r) ≡ canon r
 unfolding canon
 canon-twice r = rw (materials-twice (r .«material_count») (r .materials), region-twice (r .region))
 
--- ---- faults
-kept-count : (n i : ℕ) (l : List DispersiveMaterial) → i < n →
-    getD (keepFirst n vacuumMaterial (map canonMaterial l)) i beyond .«pole_count» ≡ getD l i beyond .«pole_count»
+-- ---- a counted material
+kept-at : (n i : ℕ) (l : List DispersiveMaterial) → i < n → getD (keepFirst n vacuumMaterial (map canonMaterial l)) i beyond ≡ canonMaterial (getD l i beyond)
 unfolding keepFirst canonMaterial
-kept-count zero i l h = absurd (not-suc-le-zero h)
-kept-count (suc n) i [] h = refl
-kept-count (suc n) zero (x ∷ l) h = refl
-kept-count (suc n) (suc i) (x ∷ l) h = kept-count n i l (le-of-suc-le-suc h)
+kept-at zero i l h = absurd (not-suc-le-zero h)
+kept-at (suc n) i [] h = refl
+kept-at (suc n) zero (x ∷ l) h = refl
+kept-at (suc n) (suc i) (x ∷ l) h = kept-at n i l (le-of-suc-le-suc h)
 
-count-kept : (r : Record) (i : ℕ) → i < r .«material_count» → poleCount (canon r) i ≡ poleCount r i
+pub material-kept : (r : Record) (i : ℕ) → i < r .«material_count» → materialAt (canon r) i ≡ canonMaterial (materialAt r i)
 unfolding canon
-count-kept r i h = kept-count (r .«material_count») i (r .materials) h
+material-kept r i h = kept-at (r .«material_count») i (r .materials) h
 
-all-same : (f g : ℕ → Bool) (n : ℕ) → ((i : ℕ) → i < n → f i ≡ g i) → allBelow f n ≡ allBelow g n
-unfolding allBelow
-all-same f g zero h = refl
-all-same f g (suc n) h = rw (all-same f g n (λ i l. h i (omega arith)), h n (omega arith))
+pub count-kept : (r : Record) (i : ℕ) → i < r .«material_count» → poleCount (canon r) i ≡ poleCount r i
+unfolding canonMaterial
+count-kept r i h = ap (λ (m : DispersiveMaterial). m .«pole_count») (material-kept r i h)
+
+-- ---- a counted pole
+first-kept : {A : Type 0} (n i : ℕ) (d : A) (l : List A) → i < n → getD (keepFirst n d l) i d ≡ getD l i d
+unfolding keepFirst
+first-kept zero i d l h = absurd (not-suc-le-zero h)
+first-kept (suc n) i d [] h = refl
+first-kept (suc n) zero d (x ∷ l) h = refl
+first-kept (suc n) (suc i) d (x ∷ l) h = first-kept n i d l (le-of-suc-le-suc h)
+
+pub pole-kept : (m : DispersiveMaterial) (i : ℕ) → i < m .«pole_count» → poleIn (canonMaterial m) i ≡ poleIn m i
+unfolding canonMaterial
+pole-kept m i h = ap (λ (s : PoleSlot). s .pole) (first-kept (m .«pole_count») i blankSlot (m .poles) h)
+
+-- ---- faults
+-- a material fits as its canon does
+steps-same : (eps0 dt : Float) (m : DispersiveMaterial) → materialSteps eps0 dt (canonMaterial m) ≡ materialSteps eps0 dt m
+unfolding materialSteps canonMaterial
+steps-same eps0 dt m = all-same _ _ (m .«pole_count») (λ slot h. ap (poleSteps eps0 dt) (pole-kept m slot h))
+
+pub fits-same : (r : Record) (m : DispersiveMaterial) → materialFits r (canonMaterial m) ≡ materialFits r m
+unfolding materialFits canonMaterial
+fits-same r m = ap (λ (t : Bool). leb (m .«pole_count») (r .«pole_slots») && t) (steps-same (epsOf r) (r .spacings .dt) m)
 
 poles-same : (r : Record) → polesFit (canon r) ≡ polesFit r
-unfolding polesFit canon
-poles-same r =
-    all-same (λ i. leb (poleCount (canon r) i) (r .«pole_slots»)) (λ i. leb (poleCount r i) (r .«pole_slots»)) (r .«material_count»)
-    (λ i h. ap (λ (n : ℕ). leb n (r .«pole_slots»)) (count-kept r i h))
+unfolding polesFit canon materialFits
+poles-same r = all-same _ _ (r .«material_count») (λ i h. ap (materialFits r) (material-kept r i h) ∙ fits-same r (materialAt r i))
 
 counts-by : (low : Bool) (r : Record) → leb 1 (r .«material_count») ≡ low → countsFit (canon r) ≡ countsFit r
 unfolding countsFit canon

@@ -5,7 +5,7 @@ use native.Mathlib.Nat.{eq-or-lt-of-le, zero-mul, mul-one, mul-pos, mul-le-mul, 
 use native.Mathlib.Numerals.{add-one}
 use native.Mathlib.Omega.{arith}
 use mathlib.Core.Bool.{Bool, true, false, _&&_, and-false}
-use mathlib.Core.Path.{_≡_, refl, sym, _∙_}
+use mathlib.Core.Path.{_≡_, refl, sym, subst, _∙_}
 use mathlib.Core.Logic.{⊎-elim}
 use lib.Dec.{leb, ltb, eqb}
 use lib.IntN.{ℤ, pos}
@@ -15,7 +15,8 @@ use lib.Ieee.Fits.{up-pos}
 use borrow.Author.Tests.{leb-true, lt-ltb}
 use Rattle.grid.specs.declared.Record.{Record}
 use Rattle.grid.specs.Inner.Sound.{Sound}
-use Rattle.grid.specs.Fault.{sideFits, sidesFit, sizeFits, allBelow, poleCount, openedFit, countsFit, polesFit, layerFits, regionFits, spacingsFit, studyFits, faultOf}
+use Rattle.grid.specs.Vacuum.{epsOf}
+use Rattle.grid.specs.Fault.{sideFits, sidesFit, sizeFits, allBelow, materialAt, poleCount, openedFit, countsFit, materialSteps, materialFits, polesFit, layerFits, regionFits, spacingsFit, studyFits, faultOf}
 use Rattle.grid.proofs.Tests.{and-left, and-right, first-none}
 
 -- ---- finite and above zero
@@ -61,6 +62,30 @@ all-fails f i (suc n) l q = ⊎-elim (λ e. last e) (λ b. rw (all-fails f i n b
   where
     last : i ≡ n → (allBelow f n && f n) ≡ false
     last e = rw (← e, q) (and-false (allBelow f i))
+
+pub all-at : (f : ℕ → Bool) (n i : ℕ) → allBelow f n ≡ true → i < n → f i ≡ true
+unfolding allBelow
+all-at f zero i e h = absurd (not-suc-le-zero h)
+all-at f (suc n) i e h =
+    ⊎-elim (λ q. subst (λ (k : ℕ). f k ≡ true) (sym q) (and-right (allBelow f n) (f n) e)) (λ b. all-at f n i (and-left (allBelow f n) (f n) e) b)
+    (eq-or-lt-of-le (le-of-suc-le-suc h))
+
+pub all-same : (f g : ℕ → Bool) (n : ℕ) → ((i : ℕ) → i < n → f i ≡ g i) → allBelow f n ≡ allBelow g n
+unfolding allBelow
+all-same f g zero h = refl
+all-same f g (suc n) h = rw (all-same f g n (λ i l. h i (omega arith)), h n (omega arith))
+
+pub all-true : (f : ℕ → Bool) (n : ℕ) → ((i : ℕ) → i < n → f i ≡ true) → allBelow f n ≡ true
+unfolding allBelow
+all-true f zero h = refl
+all-true f (suc n) h = rw (all-true f n (λ i l. h i (omega arith)), h n (omega arith))
+
+-- a counted material has no more poles than slots
+pub poles-at : (r : Record) (i : ℕ) → polesFit r ≡ true → i < r .«material_count» → poleCount r i ≤ r .«pole_slots»
+unfolding polesFit materialFits
+poles-at r i e h =
+    let m = materialAt r i in
+    leb-true (m .«pole_count») (r .«pole_slots») (and-left (leb (m .«pole_count») (r .«pole_slots»)) (materialSteps (epsOf r) (r .spacings .dt) m) (all-at _ (r .«material_count») i e h))
 
 -- ---- sizes
 -- three sides, and what the code multiplies them to

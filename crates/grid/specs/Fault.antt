@@ -1,17 +1,20 @@
--- The refusals that a study record itself brings on (document 01, "What each call turns down"): 1 BadSize, 2 BadSpacing, 3 BadStudy. Definitions only.
+-- The refusals that a study record itself brings on (document 01, "What each call turns down"; document 02, S-2 and S-7): 1 BadSize, 2 BadSpacing, 3 BadStudy. Definitions only.
 use Prim.Native.Nat.{ℕ, zero, suc, _*_}
 use mathlib.Core.Bool.{Bool, true, false, not, _&&_, _||_}
 use mathlib.Core.List.{List, []}
 use lib.Dec.{leb, ltb, eqb}
 use lib.ListN.{getD}
-use lib.Ieee.{nan}
+use lib.Ieee.{Float, nan}
 use lib.Ieee.Positive.{positive}
 use Rattle.root.specs.declared.Spacings.{Spacings}
 use Rattle.dispersion.specs.declared.DispersiveMaterial.{DispersiveMaterial}
+use Rattle.dispersion.specs.Ade.{poleSteps}
+use Rattle.dispersion.specs.Material.{poleIn}
 use Rattle.grid.specs.declared.RegionKind.{RegionKind}
 use Rattle.grid.specs.declared.RegionKind.the-variants.{Absent, SlabZ, InjectorZ, BoxRegion}
 use Rattle.grid.specs.declared.Region.{Region}
 use Rattle.grid.specs.declared.Record.{Record}
+use Rattle.grid.specs.Vacuum.{epsOf}
 use Rattle.grid.specs.Limits.{maxSide, maxCells, maxPoleSlots, maxMaterials, maxConstants}
 
 abbrev pub badSize : ℕ
@@ -42,8 +45,11 @@ spacingsFit s = positive (s .dx) && positive (s .dy) && positive (s .dz) && posi
 abbrev pub beyond : DispersiveMaterial
 beyond = record { «eps_inf» = nan; sigma = nan; «mu_r» = nan; «pole_count» = 0; poles = [] }
 
+abbrev pub materialAt : Record → ℕ → DispersiveMaterial
+materialAt r i = getD (r .materials) i beyond
+
 abbrev pub poleCount : Record → ℕ → ℕ
-poleCount r i = getD (r .materials) i beyond .«pole_count»
+poleCount r i = materialAt r i .«pole_count»
 
 -- constants that are neither 0 nor 1, more than 4 pole slots (document 01's P)
 abbrev pub openedFit : Record → Bool
@@ -63,9 +69,17 @@ unfoldable pub allBelow : (ℕ → Bool) → ℕ → Bool
 allBelow f zero = true
 allBelow f (suc n) = allBelow f n && f n
 
--- a material with more poles than slots
+-- whether each pole that a material counts can be stepped (document 02, S-2); what stands past the count means nothing
+unfoldable pub materialSteps : (eps0 dt : Float) → DispersiveMaterial → Bool
+materialSteps eps0 dt m = allBelow (λ slot. poleSteps eps0 dt (poleIn m slot)) (m .«pole_count»)
+
+-- a material with more poles than slots, or with one that cannot be stepped by the record's constants and dt
+unfoldable pub materialFits : Record → DispersiveMaterial → Bool
+materialFits r m = leb (m .«pole_count») (r .«pole_slots») && materialSteps (epsOf r) (r .spacings .dt) m
+
+-- such a one among the counted materials
 unfoldable pub polesFit : Record → Bool
-polesFit r = allBelow (λ i. leb (poleCount r i) (r .«pole_slots»)) (r .«material_count»)
+polesFit r = allBelow (λ i. materialFits r (materialAt r i)) (r .«material_count»)
 
 -- an active axis with the layer off
 unfoldable pub layerFits : List Bool → Bool → Bool

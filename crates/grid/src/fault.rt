@@ -1,12 +1,16 @@
 // Refusals 1 to 3: what is wrong with a study record, the first fault first.
+ghost use mathlib.Core.Bool.{_&&_};
 ghost use mathlib.Core.Path.{_≡_};
 ghost use Prim.Native.Nat.{_≤_};
+ghost use lib.Dec.{leb};
 ghost use lib.Ieee.Positive.{positive};
-ghost use Rattle.grid.specs.Fault.{sideFits, sidesFit, sizeFits, spacingsFit, isAbsent, cornersFit, regionFits, layerFits, polesFit, countsFit, studyFits, first, faultOf};
+ghost use Rattle.grid.specs.Fault.{sideFits, sidesFit, sizeFits, spacingsFit, isAbsent, cornersFit, regionFits, layerFits, materialSteps, polesFit, countsFit, studyFits, first, faultOf};
 use crate::Record;
 use crate::Region;
 use crate::RegionKind;
+use dispersion::DispersiveMaterial;
 use root::Spacings;
+use root::vacuum;
 
 pub const MAX_SIDE: usize = 512;
 
@@ -100,16 +104,46 @@ fn counts_fit(r: Record) -> bool
         & (r.materials[0].pole_count == 0)
 }
 
-// No counted material has more poles than there are slots.
+// Each counted pole can be stepped.
+fn material_steps(m: DispersiveMaterial, eps0: f64, dt: f64) -> bool
+    requires { ⌜ m .«pole_count» ≤ 4 ⌝ }
+    ensures { λ b. ⌜ b ≡ materialSteps eps0 dt m ⌝ }
+{
+    let n = m.pole_count;
+    let mut slot = 0;
+    while slot < n {
+        let held = m.poles[slot];
+        let pole = held.pole;
+        if pole.ade_coeffs(eps0, dt).refusal != 0 {
+            return false;
+        }
+        slot += 1;
+    }
+    true
+}
+
+// A material has no more poles than there are slots, and each can be stepped.
+pub fn material_fits(m: DispersiveMaterial, slots: usize, eps0: f64, dt: f64) -> bool
+    requires { ⌜ slots ≤ 4 ⌝ }
+    ensures { λ b. ⌜ b ≡ (leb (m .«pole_count») slots && materialSteps eps0 dt m) ⌝ }
+{
+    if slots < m.pole_count {
+        return false;
+    }
+    material_steps(m, eps0, dt)
+}
+
 fn poles_fit(r: Record) -> bool
-    requires { ⌜ r .«material_count» ≤ 16 ⌝ }
+    requires { ⌜ (r .«material_count» ≤ 16) × (r .«pole_slots» ≤ 4) ⌝ }
     ensures { λ b. ⌜ b ≡ polesFit r ⌝ }
 {
     let n = r.material_count;
-    let p = r.pole_slots;
+    let slots = r.pole_slots;
+    let dt = r.spacings.dt;
+    let eps0 = vacuum::chosen(r.constants).eps0;
     let mut i = 0;
     while i < n {
-        if p < r.materials[i].pole_count {
+        if !material_fits(r.materials[i], slots, eps0, dt) {
             return false;
         }
         i += 1;

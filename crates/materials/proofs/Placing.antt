@@ -9,7 +9,7 @@ use lib.ListN.{length, getD}
 use lib.Seq.{take-all}
 use lib.Ieee.{Float, nan}
 use borrow.Author.Tests.{le-leb, lt-ltb, ltb-true, eqb-true}
-use lib.Dec.{ltb, eqb}
+use lib.Dec.{eqb}
 use Rattle.codec.specs.Lists.{put, part}
 use Rattle.codec.proofs.Lists.{put-whole, part-length}
 use Rattle.cells.specs.declared.IndexBox.{IndexBox}
@@ -17,7 +17,8 @@ use Rattle.cells.specs.Cells.{cellwise, cellIndex, components}
 use Rattle.cells.specs.Reading.{block-end}
 use Rattle.cells.specs.Inner.Blocks.{on, inBlocks, setBox}
 use Rattle.cells.specs.Box.{inBox, within}
-use Rattle.materials.specs.Materials.{mediumAt, mediaSet, idsSet, Placed, placed, materialAt, assigned, isKnown, putInto, putFault, filled, putBoxCall, halfspace, uncounted, halfspaceCall}
+use Rattle.grid.specs.Fault.{materialAt}
+use Rattle.materials.specs.Materials.{mediumAt, mediaSet, idsSet, Placed, placed, assigned, isKnown, putInto, putFault, filled, putBoxCall, halfspace, uncounted, halfspaceCall}
 use Rattle.materials.specs.Inner.Fillable.{Fillable}
 use Rattle.materials.specs.declared.Put.{Put}
 use Rattle.materials.specs.declared.Put.the-variants.{Numbers, Library}

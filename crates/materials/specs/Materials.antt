@@ -6,6 +6,7 @@ use lib.Dec.{leb, ltb, eqb}
 use lib.ListN.{length, getD, set}
 use lib.Ieee.{Float, nan}
 use Rattle.dispersion.specs.declared.DispersiveMaterial.{DispersiveMaterial}
+use Rattle.dispersion.specs.Ade.{badPole}
 use Rattle.grid.specs.declared.Record.{Record}
 use Rattle.cells.specs.declared.IndexBox.{IndexBox}
 use Rattle.cells.specs.Box.{inBox, boxCells}
@@ -13,7 +14,8 @@ use Rattle.cells.specs.Cells.{cellwise, cellIndex, components}
 use Rattle.materials.specs.declared.Put.{Put}
 use Rattle.materials.specs.declared.Put.the-variants.{Numbers, Library}
 use Rattle.grid.specs.Limits.{maxMaterials}
-use Rattle.grid.specs.Fault.{beyond, first, poleCount, faultOf}
+use Rattle.grid.specs.Vacuum.{epsOf}
+use Rattle.grid.specs.Fault.{materialAt, first, poleCount, materialSteps, faultOf}
 use Rattle.grid.specs.Edited.{withMaterials, withBuilt}
 use Rattle.grid.specs.Canon.{canonMaterial}
 use Rattle.grid.specs.Stores.{zeros, storeLengths, orElse, faultLent, Outcome, outcome, settle}
@@ -41,9 +43,6 @@ pub record Placed : Type 0 where
 
 abbrev pub placed : List Float → List ℕ → Placed
 placed m i = record { media = m; ids = i }
-
-abbrev pub materialAt : Record → ℕ → DispersiveMaterial
-materialAt r id = getD (r .materials) id beyond
 
 -- a registered material's numbers and its id
 unfoldable pub assigned : Record → IndexBox → ℕ → Placed → Placed
@@ -105,22 +104,23 @@ unfoldable pub buildCall : Record → List Float → Outcome (List Float)
 buildCall r poles =
     settle (polesFault r (length poles)) r poles (withBuilt r (builtOf r)) (zeros (length poles))
 
--- ---- add_material: 6 TooManyPoles, then 5 Full; no store is lent; the answer is the material's id
+-- ---- add_material: 6 TooManyPoles, then 19 BadPole (document 02, S-2), then 5 Full; no store is lent; the answer is the material's id
 abbrev pub full : ℕ
 full = 5
 
 abbrev pub tooManyPoles : ℕ
 tooManyPoles = 6
 
-unfoldable pub addFault : Record → (poles : ℕ) → ℕ
-addFault r poles =
+unfoldable pub addFault : Record → DispersiveMaterial → ℕ
+addFault r m =
     orElse (faultOf r)
-    (first (leb poles (r .«pole_slots»)) tooManyPoles
-    (first (ltb (r .«material_count») maxMaterials) full 0))
+    (first (leb (m .«pole_count») (r .«pole_slots»)) tooManyPoles
+    (first (materialSteps (epsOf r) (r .spacings .dt) m) badPole
+    (first (ltb (r .«material_count») maxMaterials) full 0)))
 
 -- the record keeps nothing of the places past the pole count, so that a canonical record stays canonical
 unfoldable pub added : Record → DispersiveMaterial → Record
 added r m = withMaterials r (set (r .materials) (r .«material_count») (canonMaterial m)) (r .«material_count» + 1)
 
 unfoldable pub addCall : Record → DispersiveMaterial → Outcome ℕ
-addCall r m = settle (addFault r (m .«pole_count»)) r 0 (added r m) (r .«material_count»)
+addCall r m = settle (addFault r m) r 0 (added r m) (r .«material_count»)

@@ -9,12 +9,14 @@ ghost use Rattle.grid.specs.Stores.{outcome};
 ghost use Rattle.materials.specs.Inner.Fillable.{Fillable};
 ghost use Rattle.materials.specs.Materials.{mediumAt, mediaSet, placed, assigned, isKnown, putInto, putFault, filled, putBoxCall, halfspaceCall, anyPole, builtOf, buildCall, addFault, addCall};
 use cells::IndexBox;
+use dispersion::BAD_POLE;
 use dispersion::DispersiveMaterial;
 use dispersion::PoleSlot;
 use grid::Answer;
 use grid::Record;
 use grid::fault;
 use grid::stores;
+use root::vacuum;
 
 pub const FULL: u32 = 5;
 
@@ -226,19 +228,28 @@ fn kept_material(m: DispersiveMaterial) -> DispersiveMaterial
     }
 }
 
-fn add_fault(r: Record, poles: usize) -> u32
-    ensures { λ n. ⌜ n ≡ addFault r poles ⌝ }
+// A material with too many poles is refused for that, so that whether it fits tells 19 apart.
+fn add_fault(r: Record, m: DispersiveMaterial) -> u32
+    ensures { λ n. ⌜ n ≡ addFault r m ⌝ }
 {
-    let room = fault::first_fault(r.material_count < fault::MAX_MATERIALS, FULL, 0);
-    let later = fault::first_fault(poles <= r.pole_slots, TOO_MANY_POLES, room);
-    stores::or_else(fault::fault_of(r), later)
+    let f = fault::fault_of(r);
+    if f != 0 {
+        return f;
+    }
+    let few = m.pole_count <= r.pole_slots;
+    let eps0 = vacuum::chosen(r.constants).eps0;
+    let fits = fault::material_fits(m, r.pole_slots, eps0, r.spacings.dt);
+    let free = r.material_count < fault::MAX_MATERIALS;
+    let full = fault::first_fault(free, FULL, 0);
+    let bad = fault::first_fault(fits, BAD_POLE, full);
+    fault::first_fault(few, TOO_MANY_POLES, bad)
 }
 
 // Puts a material behind those that stand, and answers its id.
 pub fn add_material(r: Record, m: DispersiveMaterial) -> Added
     ensures { λ o. ⌜ outcome (o .refusal) (o .study) (o .id) ≡ addCall r m ⌝ }
 {
-    let f = add_fault(r, m.pole_count);
+    let f = add_fault(r, m);
     if f != 0 {
         return Added {
             refusal: f,

@@ -12,7 +12,7 @@ use Rattle.grid.specs.declared.Record.{Record}
 use Rattle.grid.specs.Fault.{badStudy, faultOf}
 use Rattle.grid.specs.Stores.{Stores, Outcome, outcome, settle, orElse, lentFault, lengthsOf, storeLengths, sameLengths, faultLent, faultWith}
 use Rattle.grid.proofs.Settled.{turned-down}
-use Rattle.grid.proofs.Tests.{or-none, or-stays}
+use Rattle.grid.proofs.Tests.{or-stays}
 use Rattle.opening.specs.Opening.{openRecord, openStores, openCall}
 use Rattle.opening.specs.Layer.{Layer}
 use Rattle.materials.specs.Materials.{addFault, addCall, Placed, Filled, filled, putBoxCall}
@@ -47,25 +47,25 @@ module _ {A : Type 0} (f : Record → Outcome A) (b : List ℕ) (kept : A) where
   clock-well {b'} {r} {q} {n} {s} fine er eo eb =
       rw fine (ap (λ (x : List ℕ). sent n x s) eb ∙ ap (λ (o : Outcome A). clockPassed o b) (eo ∙ ap f er))
 
--- ---- a material added: f is the record's fault or the bytes', and the code went on or not
-module _ (m : List ℕ) (r : Record) {f own bytes : ℕ} (ef : f ≡ orElse own bytes) (eo : own ≡ faultOf r) (em : bytes ≡ materialFault m) where
-  judged-bytes : f ≡ orElse (faultOf r) (materialFault m)
-  judged-bytes = rw (← eo, ← em) ef
+-- ---- a material added: its bytes are at fault, and then the record's own fault comes first; or they are not, and the call judges the record itself
+or-twice : (n m : ℕ) → orElse n (orElse n m) ≡ orElse n m
+or-twice zero m = refl
+or-twice (suc n) m = refl
 
-  pub bytes-none : f ≡ 0 → (faultOf r ≡ 0) × (materialFault m ≡ 0)
-  bytes-none z = or-none (faultOf r) (materialFault m) (sym judged-bytes ∙ z)
+or-some : (n m : ℕ) → (m ≡ 0 → ⊥) → orElse n m ≡ 0 → ⊥
+or-some zero m h e = h e
+or-some (suc n) m h e = let z : ⊥ = omega arith in z
 
-  pub add-ill : (f ≡ 0 → ⊥) → outcome f r 0 ≡ addBytesCall m r
+module _ (m : List ℕ) (r : Record) {bytes : ℕ} (em : bytes ≡ materialFault m) where
+  pub add-ill : {f own : ℕ} → own ≡ faultOf r → f ≡ orElse own bytes → (bytes ≡ 0 → ⊥) → outcome f r 0 ≡ addBytesCall m r
   unfolding addBytesCall addBytesFault
-  add-ill h = turned-down f _ r _ 0 _ (stays (faultOf r) judged-bytes) h
-    where
-      stays : (n : ℕ) → f ≡ orElse n (materialFault m) → f ≡ orElse n (orElse (materialFault m) (addFault r (materialOf m .«pole_count»)))
-      stays zero e = or-stays f (materialFault m) _ e h
-      stays (suc n) e = e
+  add-ill {f} {own} eo ef h =
+      let first : f ≡ orElse (faultOf r) bytes = ef ∙ ap (λ (n : ℕ). orElse n bytes) eo in
+      turned-down f _ r _ 0 _ (first ∙ ap (orElse (faultOf r)) (or-stays bytes (materialFault m) (addFault r (materialOf m)) em h)) (λ z. or-some (faultOf r) bytes h (sym first ∙ z))
 
-  pub add-well : {d : DispersiveMaterial} {o : Outcome ℕ} → f ≡ 0 → d ≡ materialOf m → o ≡ addCall r d → o ≡ addBytesCall m r
-  unfolding addBytesCall addBytesFault addCall
-  add-well z ed e = e ∙ ap (addCall r) ed ∙ sym (rw (bytes-none z .0, bytes-none z .1))
+  pub add-well : {d : DispersiveMaterial} {o : Outcome ℕ} → bytes ≡ 0 → d ≡ materialOf m → o ≡ addCall r d → o ≡ addBytesCall m r
+  unfolding addBytesCall addBytesFault addCall addFault
+  add-well z ed e = e ∙ ap (addCall r) ed ∙ sym (rw (sym em ∙ z, or-twice))
 
 -- ---- opening and rewind: a block of another length, where f comes before the stores' lengths; a block of the right one, where f is the whole fault
 left-alone : {A : Type 0} (n : ℕ) (r : Record) (s : A) (b : List ℕ) → sent (suc n) b s ≡ passed (outcome (suc n) r s) b

@@ -54,10 +54,10 @@ pub fn put_box(
 fn add_bytes(r: Record, material: &[u8]) -> Added
     ensures { λ o. ⌜ outcome (o .refusal) (o .study) (o .id) ≡ addBytesCall (now (material .entry)) r ⌝ }
 {
-    let f = stores::or_else(fault::fault_of(r), blocks::material_fault(material));
-    if f != 0 {
+    let bytes = blocks::material_fault(material);
+    if bytes != 0 {
         return Added {
-            refusal: f,
+            refusal: stores::or_else(fault::fault_of(r), bytes),
             study: r,
             id: 0,
         };

@@ -11,7 +11,7 @@ use lib.Ieee.{Float, nan}
 use Rattle.grid.specs.declared.Record.{Record}
 use Rattle.grid.specs.declared.Clock.{Clock}
 use Rattle.grid.specs.Edited.{withClock}
-use Rattle.grid.specs.Fault.{polesFit}
+use Rattle.grid.specs.Fault.{materialFits, polesFit}
 use Rattle.grid.specs.Inner.Sound.{Sound}
 use Rattle.grid.specs.Stores.{Stores, stores, Outcome, outcome}
 use Rattle.step.specs.Step.{lastStep, stepped, ticked}
@@ -61,7 +61,7 @@ same t p =
     }
 
 fitting : (r : Record) (t : Clock) → polesFit r ≡ true → polesFit (withClock r t) ≡ true
-unfolding polesFit
+unfolding polesFit materialFits
 fitting r t p = p
 
 -- a step leaves a study without fault: the stores keep their lengths

@@ -1,6 +1,5 @@
 -- An accepted call leaves a record that the first three refusals do not turn down. Assumes nothing.
-use Prim.Native.Nat.{ℕ, zero, suc, _+_, _≤_, _<_}
-use native.Mathlib.Numerals.{add-one}
+use Prim.Native.Nat.{ℕ, _≤_, _<_}
 use native.Mathlib.Omega.{arith}
 use mathlib.Core.Path.{_≡_, refl, ap, _∙_}
 use mathlib.Core.Bool.{Bool, true, false, cond, _&&_, _||_}
@@ -15,10 +14,12 @@ use Rattle.grid.specs.declared.Region.{Region}
 use Rattle.grid.specs.declared.Clock.{Clock}
 use Rattle.grid.specs.declared.Record.{Record}
 use Rattle.grid.specs.Edited.{withWalls, withBuilt, withRegion}
-use Rattle.grid.specs.Fault.{beyond, poleCount, first, sizeFits, spacingsFit, allBelow, openedFit, countsFit, polesFit, layerFits, isAbsent, cornersFit, regionFits, studyFits, faultOf}
+use Rattle.grid.specs.Fault.{beyond, materialAt, poleCount, first, sizeFits, spacingsFit, openedFit, countsFit, materialFits, polesFit, layerFits, isAbsent, cornersFit, regionFits, studyFits, faultOf}
 use Rattle.grid.specs.Canon.{canonMaterial}
 use Rattle.grid.specs.Stores.{Stores, faultLent}
 use Rattle.grid.proofs.Tests.{and-left, and-right, first-none, or-none}
+use Rattle.grid.proofs.Judging.{all-more, all-same}
+use Rattle.grid.proofs.Canonical.{fits-same}
 use Rattle.materials.specs.Materials.{anyPole, builtOf, addFault, added}
 use Rattle.materials.proofs.Building.{add-none}
 use Rattle.step.specs.Step.{stepped, ticked}
@@ -61,7 +62,7 @@ lent-fine r fits e = or-none (faultOf r) _ e .0
 
 -- ---- walls, region, clock
 pub walls-whole : (r : Record) (p a : List Bool) (on : Bool) → faultOf r ≡ 0 → layerFits a on ≡ true → faultOf (withWalls r p a on) ≡ 0
-unfolding countsFit polesFit
+unfolding countsFit polesFit materialFits
 walls-whole r p a on e h =
     let k = parts r e in
     whole (withWalls r p a on) (record { size = k .size; spacing = k .spacing; counts = k .counts; poles = k .poles; layer = h; region = k .region })
@@ -71,14 +72,14 @@ or-true true = refl
 or-true false = refl
 
 pub region-whole : (r : Record) (g : Region) (t : Clock) → faultOf r ≡ 0 → cornersFit g (r .nx) (r .ny) (r .nz) ≡ true → faultOf (withRegion r g t) ≡ 0
-unfolding countsFit polesFit regionFits
+unfolding countsFit polesFit materialFits regionFits
 region-whole r g t e h =
     let k = parts r e in
     whole (withRegion r g t)
     (record { size = k .size; spacing = k .spacing; counts = k .counts; poles = k .poles; layer = k .layer; region = rw h (or-true (isAbsent (g .kind))) })
 
 pub tick-whole : (r : Record) → faultOf r ≡ 0 → faultOf (ticked r) ≡ 0
-unfolding countsFit polesFit
+unfolding countsFit polesFit materialFits
 tick-whole r e =
     let k = parts r e in
     whole (ticked r) (record { size = k .size; spacing = k .spacing; counts = k .counts; poles = k .poles; layer = k .layer; region = k .region })
@@ -136,7 +137,7 @@ built-low r = go (anyPole r)
     go false = omega arith
 
 pub built-whole : (r : Record) → faultOf r ≡ 0 → faultOf (withBuilt r (builtOf r)) ≡ 0
-unfolding polesFit
+unfolding polesFit materialFits
 built-whole r e =
     let k = parts r e in
     let c = counted r (k .counts) in
@@ -150,48 +151,31 @@ built-whole r e =
     })
 
 -- one material more
-all-same : (f g : ℕ → Bool) (n : ℕ) → ((i : ℕ) → i < n → f i ≡ g i) → allBelow f n ≡ allBelow g n
-unfolding allBelow
-all-same f g zero h = refl
-all-same f g (suc n) h = rw (all-same f g n (λ i l. h i (omega arith)), h n (omega arith))
-
-more : (f : ℕ → Bool) (n : ℕ) → allBelow f n ≡ true → f n ≡ true → allBelow f (n + 1) ≡ true
-unfolding allBelow
-more f n p q = rw (add-one n, p, q)
-
-module _ (r : Record) (m : DispersiveMaterial) (long : length (r .materials) ≡ 16) (e : addFault r (m .«pole_count») ≡ 0) where
-  fine : faultOf r ≡ 0
-  unfolding addFault
-  fine = or-none (faultOf r) _ e .0
-
-  fits : m .«pole_count» ≤ r .«pole_slots»
-  unfolding addFault
-  fits = leb-true (m .«pole_count») (r .«pole_slots») (first-none (leb (m .«pole_count») (r .«pole_slots»)) 5 _ (or-none (faultOf r) _ e .1) .0)
-
-  below : (i : ℕ) → i < r .«material_count» → poleCount (added r m) i ≡ poleCount r i
+module _ (r : Record) (m : DispersiveMaterial) (long : length (r .materials) ≡ 16) (e : addFault r m ≡ 0) where
+  below : (i : ℕ) → i < r .«material_count» → materialAt (added r m) i ≡ materialAt r i
   unfolding added
-  below i l =
-      ap (λ (d : DispersiveMaterial). d .«pole_count») (getD-set-other (r .materials) (r .«material_count») i (canonMaterial m) beyond (λ q. omega (arith, l, q)))
+  below i l = getD-set-other (r .materials) (r .«material_count») i (canonMaterial m) beyond (λ q. omega (arith, l, q))
 
-  last : poleCount (added r m) (r .«material_count») ≡ m .«pole_count»
-  unfolding added canonMaterial
-  last = ap (λ (d : DispersiveMaterial). d .«pole_count»)
-      (getD-set-same (r .materials) (r .«material_count») (canonMaterial m) beyond (omega (arith, long, add-none r (m .«pole_count») e)))
+  last : materialAt (added r m) (r .«material_count») ≡ canonMaterial m
+  unfolding added
+  last = getD-set-same (r .materials) (r .«material_count») (canonMaterial m) beyond (omega (arith, long, add-none r m e .free))
+
+  fits : materialFits r m ≡ true
+  unfolding materialFits
+  fits = rw (add-none r m e .few, add-none r m e .steps)
 
   poles-fit : polesFit (added r m) ≡ true
-  unfolding polesFit added
+  unfolding polesFit added materialFits
   poles-fit =
-      more (λ i. leb (poleCount (added r m) i) (r .«pole_slots»)) (r .«material_count»)
-      (all-same (λ i. leb (poleCount (added r m) i) (r .«pole_slots»)) (λ i. leb (poleCount r i) (r .«pole_slots»)) (r .«material_count»)
-      (λ i l. ap (λ (n : ℕ). leb n (r .«pole_slots»)) (below i l)) ∙ parts r fine .poles)
-      (ap (λ (n : ℕ). leb n (r .«pole_slots»)) last ∙ le-leb (m .«pole_count») (r .«pole_slots») fits)
+      let was = all-same _ (λ i. materialFits r (materialAt r i)) (r .«material_count») (λ i l. ap (materialFits r) (below i l)) in
+      all-more (λ i. materialFits (added r m) (materialAt (added r m) i)) (r .«material_count») (was ∙ parts r (add-none r m e .fine) .poles) (ap (materialFits r) last ∙ fits-same r m ∙ fits)
 
   pub added-whole : faultOf (added r m) ≡ 0
   unfolding added
   added-whole =
-      let k = parts r fine in
+      let k = parts r (add-none r m e .fine) in
       let c = counted r (k .counts) in
-      let low = add-none r (m .«pole_count») e in
+      let low = add-none r m e .free in
       whole (added r m) (record {
         size = k .size;
         spacing = k .spacing;
@@ -200,7 +184,7 @@ module _ (r : Record) (m : DispersiveMaterial) (long : length (r .materials) ≡
           some = omega arith;
           few = omega (arith, low);
           built = omega (arith, c .built);
-          bare = ap (λ (n : ℕ). eqb n 0) (below 0 (omega (arith, c .some))) ∙ c .bare;
+          bare = ap (λ (d : DispersiveMaterial). eqb (d .«pole_count») 0) (below 0 (omega (arith, c .some))) ∙ c .bare;
         });
         poles = poles-fit;
         layer = k .layer;

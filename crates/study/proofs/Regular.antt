@@ -9,18 +9,18 @@ use lib.Dec.{ltb, leb, eqb}
 use lib.ListN.{length}
 use lib.Ieee.{Float}
 use borrow.Author.Tests.{ltb-true}
-use Rattle.root.specs.Rounded.{zeroF}
 use Rattle.dispersion.specs.declared.DispersiveMaterial.{DispersiveMaterial}
+use Rattle.dispersion.specs.Ade.{badPole}
 use Rattle.cells.specs.declared.IndexBox.{IndexBox}
 use Rattle.grid.specs.declared.Region.{Region}
 use Rattle.grid.specs.declared.Record.{Record}
 use Rattle.grid.specs.declared.stores.Lengths.{Lengths}
 use Rattle.grid.specs.Edited.{withWalls, withBuilt, withRegion, withClock}
-use Rattle.grid.specs.Fault.{first, cornersFit, layerFits, faultOf}
+use Rattle.grid.specs.Fault.{first, cornersFit, layerFits, materialSteps, faultOf}
 use Rattle.grid.specs.Canon.{canonMaterial, canonRegion, canon}
 use Rattle.grid.specs.Vacuum.{epsOf, muOf, lightOf}
 use Rattle.grid.specs.Stores.{Stores, Outcome, outcome, settle, zeros, orElse, storeLengths, sameLengths, lengthsOf, faultLent, faultWith}
-use Rattle.grid.proofs.Canonical.{canon-fault}
+use Rattle.grid.proofs.Canonical.{material-kept, canon-fault}
 use Rattle.grid.proofs.Tests.{or-none, first-none}
 use Rattle.grid.proofs.Settled.{lent-none}
 use Rattle.materials.proofs.Building.{add-none}
@@ -41,7 +41,7 @@ use Rattle.calls.specs.Blocks.{materialFault, materialOf, addBytesFault, addByt
 use Rattle.boundary.specs.declared.LossyAbsorber.{LossyAbsorber}
 use Rattle.boundary.specs.Lossy.{lossySigma, noWall, lossyMedia}
 use Rattle.boundary.specs.Walls.{allAxes, setPeriodicCall, plainFault, setPlainCall, lossyFault, badOrder, setLossyCall}
-use Rattle.cpml.specs.Absorber.{activeAxes, periodicLeft, layerTables, cpmlFault, absorbed, noAxis, setCpmlCall}
+use Rattle.cpml.specs.Absorber.{activeAxes, periodicLeft, layerTables, cpmlFault, absorbed, setCpmlCall}
 use Rattle.tfsf.specs.Wave.{slabZ, injectorZ, badRegion, regionFault, restarted, regionCall}
 use Rattle.fields.specs.Fields.{reset, resetLong, cleared, resetCall, energyOf, energyFault, energyCall, planeOf, noSuchPlane, planeFault, planeCall}
 use Rattle.step.specs.Step.{staleMaterial, spentClock, lastStep, freshIds, stepFault, stepped, ticked, stepCall}
@@ -49,8 +49,8 @@ use Rattle.step.proofs.Judged.{ready}
 use Rattle.run.specs.Run.{ran, runCall}
 use Rattle.study.specs.World.{Floats, SaidPut, SaidAct, Act, putBox, assignHalfspace, addMaterial, buildDispersion, setPeriodic, wallsPeriodic, wallsConductor, wallsLossy, wallsCpml, slab, injector, boxRegion, step, run, resetFields, totalEnergy, planeReading, askLength}
 use Rattle.study.specs.Inner.Holding.{Holding}
-use Rattle.study.specs.Calls.{Form, form, storing, putAux, putPlaced, putLayer, layerOf, lossedOf, placedOf, resetOf, boxRegionOf, weightOf}
-use Rattle.study.proofs.Kept.{material-kept, built-kept, added-kept, lent-kept}
+use Rattle.study.specs.Calls.{Form, form, storing, putAux, putPlaced, putLayer, layerOf, placedOf, boxRegionOf, weightOf}
+use Rattle.study.proofs.Kept.{built-kept, added-kept, lent-kept}
 use Rattle.study.proofs.Fits.{zeros-fit, layer-fit, set-fit, lossy-fit, stepped-fit}
 use Rattle.study.proofs.Remains.{held-walls, held-built, held-region, held-tick, held-added, fit-media, fit-poles, fit-aux, fit-layer, fit-cleared, fit-reset, fit-assigned, ran-holds}
 use Rattle.study.proofs.Faultless.{parts, lent-fine, walls-whole, region-whole, tick-whole, ran-whole, built-whole, added-whole}
@@ -172,7 +172,7 @@ half id k0 = record {
 }
 
 -- the bytes are a material's, whatever they are: only bytes that are one are taken
-adding : (m : List ℕ) (r : Record) → addBytesFault m r ≡ 0 → addFault r (materialOf m .«pole_count») ≡ 0
+adding : (m : List ℕ) (r : Record) → addBytesFault m r ≡ 0 → addFault r (materialOf m) ≡ 0
 unfolding addBytesFault
 adding m r e = or-none (materialFault m) _ (or-none (faultOf r) _ e .1) .1
 
@@ -185,11 +185,11 @@ add m n = record {
   is = λ r s. refl;
   idles = λ s. refl;
   silent = λ s. refl;
-  fault-canon = λ r s. ap (λ (k : ℕ). orElse k (orElse (materialFault m) (orElse k (first (leb (materialOf m .«pole_count») (r .«pole_slots»)) tooManyPoles (first (ltb (r .«material_count») 16) full 0))))) (canon-fault r);
+  fault-canon = λ r s. ap (λ (k : ℕ). orElse k (orElse (materialFault m) (orElse k (first (leb (materialOf m .«pole_count») (r .«pole_slots»)) tooManyPoles (first (materialSteps (epsOf r) (r .spacings .dt) (materialOf m)) badPole (first (ltb (r .«material_count») 16) full 0)))))) (canon-fault r);
   next-canon = λ r s h. added-kept r (materialOf m);
   rest-canon = λ r s h. refl;
   counts = λ r s. nought _;
-  holds = λ said r s h e. record { held = held-added r (materialOf m) (h .held) (read-held (entryOf m)) (add-none r (materialOf m .«pole_count») (adding m r e)); fits = h .fits };
+  holds = λ said r s h e. record { held = held-added r (materialOf m) (h .held) (read-held (entryOf m)) (add-none r (materialOf m) (adding m r e) .free); fits = h .fits };
   sound = λ r s h e. added-whole r (materialOf m) (h .sixteen) (adding m r e);
 }
 

@@ -21,13 +21,13 @@ use Rattle.dispersion.specs.Material.{blankSlot, vacuumMaterial}
 use Rattle.grid.specs.declared.Region.{Region}
 use Rattle.grid.specs.declared.Record.{Record}
 use Rattle.grid.specs.Edited.{withWalls, withBuilt, withRegion}
-use Rattle.grid.specs.Fault.{beyond}
+use Rattle.grid.specs.Fault.{materialAt, beyond}
 use Rattle.grid.specs.Canon.{keepFirst, canonMaterial}
 use Rattle.grid.specs.Stores.{Stores, cells, storeLengths}
 use Rattle.cells.specs.declared.IndexBox.{IndexBox}
 use Rattle.opening.specs.Opening.{openRecord, openStores}
 use Rattle.opening.specs.Layer.{Layer, clearedLayer}
-use Rattle.materials.specs.Materials.{Placed, placed, mediumAt, mediaSet, idsSet, materialAt, assigned, added}
+use Rattle.materials.specs.Materials.{Placed, placed, mediumAt, mediaSet, idsSet, assigned, added}
 use Rattle.fields.specs.Fields.{reset, cleared}
 use Rattle.tfsf.specs.Wave.{restarted}
 use Rattle.step.specs.Step.{lastStep, stepped, ticked}

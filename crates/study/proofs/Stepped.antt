@@ -12,9 +12,8 @@ use borrow.Author.Tests.{ltb-true}
 use Rattle.root.specs.Rounded.{_⊖_, summed}
 use Rattle.dispersion.specs.declared.DispersiveMaterial.{DispersiveMaterial}
 use Rattle.dispersion.specs.declared.Pole.{Pole}
-use Rattle.dispersion.specs.declared.PoleSlot.{PoleSlot}
 use Rattle.dispersion.specs.Ade.{adeCoeffs}
-use Rattle.dispersion.specs.Material.{blankSlot}
+use Rattle.dispersion.specs.Material.{poleIn}
 use Rattle.cells.specs.Cells.{row}
 use Rattle.cells.proofs.Blocks.{joined-same}
 use Rattle.grid.specs.declared.RegionKind.{RegionKind}
@@ -22,7 +21,7 @@ use Rattle.grid.specs.declared.RegionKind.the-variants.{Absent, SlabZ, Injector
 use Rattle.grid.specs.declared.Region.{Region}
 use Rattle.grid.specs.declared.Record.{Record}
 use Rattle.grid.specs.Edited.{edited}
-use Rattle.grid.specs.Fault.{beyond, isAbsent}
+use Rattle.grid.specs.Fault.{materialAt, isAbsent}
 use Rattle.grid.specs.Stores.{Stores, cells, numberAt, lineLength}
 use Rattle.grid.specs.Canon.{regionBy, canonRegion, canon}
 use Rattle.ade.specs.Polarization.{polarized, poleAt, poleCountAt, pOld, pPrev, pNew, pAfter, pPrevAfter, dpAfter, poleNumber, polesAfter, deltaP}
@@ -30,7 +29,7 @@ use Rattle.fdtd.specs.Halves.{halfH, psiAfter, firstAfter, secondAfter, movesAt
 use Rattle.tfsf.specs.Line.{lineH, lineE}
 use Rattle.tfsf.specs.Corrections.{correctFace, correctH, correctE}
 use Rattle.step.specs.Step.{lineMid, correctedH, correctedE, lineEnd, polesStepped, stepped, ticked}
-use Rattle.study.proofs.Kept.{material-kept, count-kept, pole-kept}
+use Rattle.grid.proofs.Canonical.{material-kept, count-kept, pole-kept}
 
 -- ---- the half steps
 module _ (r : Record) where
@@ -152,8 +151,7 @@ module _ (eps0 : Float) (r : Record) (ids : List ℕ) (electric poles : List Flo
 
     at-kept : (slot : ℕ) → slot < poleCountAt eps0 r ids electric poles m → poleAt (canon r) (getD ids m 0) slot ≡ poleAt r (getD ids m 0) slot
     at-kept slot h =
-        ap (λ (d : DispersiveMaterial). getD (d .poles) slot blankSlot .pole) (material-kept r (getD ids m 0) low)
-        ∙ ap (λ (p : PoleSlot). p .pole) (pole-kept (getD (r .materials) (getD ids m 0) beyond) slot h)
+        ap (λ (d : DispersiveMaterial). poleIn d slot) (material-kept r (getD ids m 0) low) ∙ pole-kept (materialAt r (getD ids m 0)) slot h
 
     new-kept : (slot c : ℕ) → slot < poleCountAt eps0 r ids electric poles m → pNew eps0 (canon r) ids electric poles slot c m ≡ pNew eps0 r ids electric poles slot c m
     unfolding pNew canon

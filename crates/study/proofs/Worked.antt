@@ -21,7 +21,7 @@ use Rattle.grid.specs.declared.Record.{Record}
 use Rattle.grid.specs.declared.stores.Lengths.{Lengths}
 use Rattle.grid.specs.Edited.{withWalls}
 use Rattle.grid.specs.Canon.{keepFirst, canonMaterial, canonRegion, canon}
-use Rattle.grid.specs.Fault.{sideFits, sidesFit, sizeFits, spacingsFit, countsFit, allBelow, polesFit, layerFits, regionFits, studyFits, faultOf}
+use Rattle.grid.specs.Fault.{sideFits, sidesFit, sizeFits, spacingsFit, countsFit, allBelow, materialSteps, materialFits, polesFit, layerFits, regionFits, studyFits, faultOf}
 use Rattle.grid.specs.Vacuum.{epsOf, muOf, lightOf}
 use Rattle.grid.specs.Stores.{Stores, Outcome, outcome, lengthsOf, storeLengths, sameLengths, faultLent, faultWith}
 use Rattle.opening.specs.Opening.{openRecord, openMedia, inactive, openTables, openStores}
@@ -180,7 +180,7 @@ abbrev l₁ : Lengths
 l₁ = lengthsOf s₁
 
 faultless : (faultOf r₁ ≡ 0) × (faultOf r₂ ≡ 0) × (faultOf r₃ ≡ 0) × (faultOf r₄ ≡ 0) × (faultOf r₅ ≡ 0)
-unfolding faultOf sizeFits sidesFit sideFits spacingsFit studyFits countsFit polesFit allBelow layerFits regionFits ofBits
+unfolding faultOf sizeFits sidesFit sideFits spacingsFit studyFits countsFit polesFit materialFits materialSteps allBelow layerFits regionFits ofBits
 faultless = (refl, refl, refl, refl, refl)
 
 canonical : (canon r₁ ≡ r₁) × (canon r₂ ≡ r₂) × (canon r₃ ≡ r₃) × (canon r₄ ≡ r₄) × (canon r₅ ≡ r₅)
@@ -239,22 +239,22 @@ k₅ = record { is = refl; ok = faultless .4; held = held-tick r₂ h₂ (omega 
 
 -- ---- what the definitions come to
 judged : (faultWith r₁ l₁ ≡ 0) × (faultWith r₄ l₁ ≡ 4) × (faultWith r₄ (lengthsOf (openStores r₄)) ≡ 0)
-unfolding faultLent faultOf sizeFits sidesFit sideFits spacingsFit studyFits countsFit polesFit allBelow layerFits regionFits storeLengths openStores ofBits sameLengths openMedia openTables inactive
+unfolding faultLent faultOf sizeFits sidesFit sideFits spacingsFit studyFits countsFit polesFit materialFits materialSteps allBelow layerFits regionFits storeLengths openStores ofBits sameLengths openMedia openTables inactive
 judged = (refl, refl, refl)
 
 no-plane : outcome 17 r₁ zeroF ≡ planeCall r₁ 1 (s₁ .electric) (s₁ .magnetic)
-unfolding faultLent faultOf sizeFits sidesFit sideFits spacingsFit studyFits countsFit polesFit allBelow layerFits regionFits storeLengths openStores ofBits planeCall planeFault
+unfolding faultLent faultOf sizeFits sidesFit sideFits spacingsFit studyFits countsFit polesFit materialFits materialSteps allBelow layerFits regionFits storeLengths openStores ofBits planeCall planeFault
 no-plane = refl
 
 abbrev joules : Float
 joules = energyOf (epsOf r₁) (muOf r₁) r₁ (s₁ .electric) (s₁ .magnetic) (s₁ .media)
 
 read : outcome 0 r₁ joules ≡ energyCall (epsOf r₁) (muOf r₁) r₁ (s₁ .electric) (s₁ .magnetic) (s₁ .media)
-unfolding faultLent faultOf sizeFits sidesFit sideFits spacingsFit studyFits countsFit polesFit allBelow layerFits regionFits storeLengths openStores ofBits openMedia energyCall energyFault
+unfolding faultLent faultOf sizeFits sidesFit sideFits spacingsFit studyFits countsFit polesFit materialFits materialSteps allBelow layerFits regionFits storeLengths openStores ofBits openMedia energyCall energyFault
 read = refl
 
 stepping : (outcome 0 r₂ s₂ ≡ stepCall (epsOf r₁) (muOf r₁) (lightOf r₁) r₁ oneF s₁) × (stepFault r₁ l₁ (s₁ .ids) 1 ≡ 0)
-unfolding faultLent faultOf sizeFits sidesFit sideFits spacingsFit studyFits countsFit polesFit allBelow layerFits regionFits storeLengths openStores ofBits stepCall stepFault freshIds sameLengths openMedia openTables inactive
+unfolding faultLent faultOf sizeFits sidesFit sideFits spacingsFit studyFits countsFit polesFit materialFits materialSteps allBelow layerFits regionFits storeLengths openStores ofBits stepCall stepFault freshIds sameLengths openMedia openTables inactive
 stepping = (refl, refl)
 
 as-long : lengthsOf s₂ ≡ l₁
@@ -266,7 +266,7 @@ unfolding stepped
 same-ids = refl
 
 step-judged : stepFault r₂ l₁ (s₁ .ids) 1 ≡ 0
-unfolding faultLent faultOf sizeFits sidesFit sideFits spacingsFit studyFits countsFit polesFit allBelow layerFits regionFits storeLengths openStores ofBits stepFault freshIds sameLengths openMedia openTables inactive
+unfolding faultLent faultOf sizeFits sidesFit sideFits spacingsFit studyFits countsFit polesFit materialFits materialSteps allBelow layerFits regionFits storeLengths openStores ofBits stepFault freshIds sameLengths openMedia openTables inactive
 step-judged = refl
 
 stepping-on : outcome 0 r₅ s₅ ≡ stepCall (epsOf r₂) (muOf r₂) (lightOf r₂) r₂ oneF s₂
@@ -274,12 +274,12 @@ unfolding stepCall
 stepping-on = rw (as-long, same-ids, step-judged)
 
 periodic-x : outcome 0 r₃ tt ≡ setPeriodicCall r₂ (true ∷ false ∷ false ∷ [])
-unfolding faultOf sizeFits sidesFit sideFits spacingsFit studyFits countsFit polesFit allBelow layerFits regionFits ofBits setPeriodicCall
+unfolding faultOf sizeFits sidesFit sideFits spacingsFit studyFits countsFit polesFit materialFits materialSteps allBelow layerFits regionFits ofBits setPeriodicCall
 periodic-x = refl
 
 -- 1,389 bytes are enough for either study, and 1,388 are not
 room-for : (saveFault r₁ l₁ 1389 ≡ 0) × (saveFault r₁ l₁ 2000 ≡ 0) × (saveFault r₂ l₁ 1389 ≡ 0) × (saveFault r₂ l₁ 1388 ≡ 12)
-unfolding saveFault saveLength faultLent faultOf sizeFits sidesFit sideFits spacingsFit studyFits countsFit polesFit allBelow layerFits regionFits storeLengths openStores ofBits sameLengths openMedia openTables inactive
+unfolding saveFault saveLength faultLent faultOf sizeFits sidesFit sideFits spacingsFit studyFits countsFit polesFit materialFits materialSteps allBelow layerFits regionFits storeLengths openStores ofBits sameLengths openMedia openTables inactive
 room-for = (refl, refl, refl, refl)
 
 fits₂ : (n k : ℕ) → saveFault r₂ l₁ n ≡ k → saveFault r₂ (lengthsOf s₂) n ≡ k

@@ -3,6 +3,7 @@
 mod checks;
 mod phase;
 pub mod plan;
+mod refused;
 pub mod study;
 pub mod warnings;
 

@@ -9,9 +9,10 @@ use crate::cli::interrupt::Interrupt;
 use crate::cli::{Failure, Input};
 use crate::curve::told;
 use crate::digest::sha256;
+use crate::pole::BadPole;
 use crate::standing::study_from;
 use crate::text::plain;
-use cichowiej::{CellBox, MaterialId, Put, Refusal, Source, Study, write_whole};
+use cichowiej::{CellBox, Material, MaterialId, Put, Refusal, Source, Study, write_whole};
 use parse::{Lined, parse};
 use statement::{Edge, Statement, Wave};
 use std::collections::BTreeMap;
@@ -61,6 +62,7 @@ impl Script {
         let (line, message) = match trouble {
             Trouble::Interrupted => return Failure::Interrupted,
             Trouble::Refused(refusal) => (statement.line_of(refusal, line), format!("refused as {refusal}")),
+            Trouble::Pole(lined) => lined,
             Trouble::Other(message) => (line, message),
         };
         located(&self.name, line, &message).into()
@@ -74,6 +76,8 @@ fn located(name: &str, line: usize, message: &str) -> String {
 /// Why a call came to nothing.
 enum Trouble {
     Refused(Refusal),
+    /// A material's pole, which has a line of its own.
+    Pole(Lined<String>),
     Other(String),
     Interrupted,
 }
@@ -168,8 +172,8 @@ impl Session<'_> {
                 self.study = Some(Study::open(grid)?);
                 self.names.clear();
             }
-            Statement::Material { name, material } => {
-                let id = self.study()?.add_material(material)?;
+            Statement::Material { name, material, pole_lines } => {
+                let id = add(self.study()?, name, material, pole_lines)?;
                 self.names.insert(name.clone(), id);
                 return Ok(Some(format!("material {} {}", plain(name), id.number())));
             }
@@ -270,6 +274,16 @@ impl Session<'_> {
         let name = plain(&path.display().to_string());
         Ok(format!("save {name} {} bytes, SHA-256 {}", bytes.len(), sha256(&bytes)))
     }
+}
+
+/// Adds a material. Of a pole that cannot be stepped its own line is named.
+fn add(study: &mut Study, name: &str, material: &Material, pole_lines: &[usize]) -> Result<MaterialId, Trouble> {
+    let grid = study.grid();
+    study.add_material(material).map_err(|refusal| {
+        let bad = BadPole::refused(refusal, material, &grid);
+        let lined = bad.and_then(|bad| Some((*pole_lines.get(bad.number)?, bad.message(&format!("material {name:?}")))));
+        lined.map_or(Trouble::Refused(refusal), Trouble::Pole)
+    })
 }
 
 fn at_once(cells: [usize; 3]) -> u32 {

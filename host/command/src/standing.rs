@@ -2,6 +2,7 @@
 
 pub mod compare;
 pub mod date;
+pub mod fault;
 pub mod list;
 pub mod note;
 pub mod records;
@@ -11,6 +12,7 @@ pub mod tree;
 pub mod verify;
 
 use crate::digest::sha256;
+use crate::standing::fault::{Fault, take_up};
 use crate::standing::note::{Note, Numbers, Words};
 use crate::standing::stream::Stream;
 use crate::text::{Kind, open_file, read_up_to};
@@ -87,8 +89,7 @@ pub fn study_from(path: &Path) -> Result<Study, String> {
 fn read_save(path: &Path) -> Result<(Vec<u8>, Study), String> {
     let bytes = File::open(path).and_then(|file| read_up_to(file, LONGEST_SAVE));
     let bytes = bytes.map_err(|e| format!("{}: {e}", path.display()))?;
-    let study = Study::from_save(&bytes).map_err(|refusal| format!("{}: refused as {refusal}", path.display()))?;
-    Ok((bytes, study))
+    take_up(bytes).map_err(|fault| fault.named(path).into())
 }
 
 /// The study of a kept save that was judged, and how many bytes the save has.
@@ -155,12 +156,11 @@ impl Standing {
     }
 
     /// A kept save, judged.
-    pub fn kept(&self, id: &str) -> Result<Kept, String> {
+    pub fn kept(&self, id: &str) -> Result<Kept, Fault> {
         let path = self.save_path(id);
-        let told = |message: String| format!("{}: {message}", path.display());
-        let bytes = open_file(&path).and_then(|file| read_up_to(file, LONGEST_SAVE)).map_err(|e| told(e.to_string()))?;
-        let study = judged(id, &bytes).map_err(told)?;
-        Ok(Kept { study, length: bytes.len() })
+        let bytes = open_file(&path).and_then(|file| read_up_to(file, LONGEST_SAVE));
+        let kept = bytes.map_err(|e| Fault::damage(e.to_string())).and_then(|bytes| judged(id, bytes));
+        kept.map_err(|fault| fault.named(&path))
     }
 
     pub fn note(&self, id: &str) -> Noted {
@@ -239,14 +239,13 @@ fn write(path: &Path, bytes: &[u8]) -> Result<bool, String> {
 }
 
 /// The study of a kept save, or what is wrong with it.
-fn judged(id: &str, bytes: &[u8]) -> Result<Study, String> {
-    let digest = sha256(bytes);
+fn judged(id: &str, bytes: Vec<u8>) -> Result<Kept, Fault> {
+    let (digest, length) = (sha256(&bytes), bytes.len());
     let other = format!("its SHA-256 is {digest} and not its name");
-    match (digest == id, Study::from_save(bytes)) {
-        (true, Ok(study)) => Ok(study),
-        (true, Err(refusal)) => Err(format!("refused as {refusal}")),
-        (false, Ok(_)) => Err(format!("{other}: the engine takes it, but it is not the save that was kept")),
-        (false, Err(refusal)) => Err(format!("refused as {refusal}; {other}")),
+    match (digest == id, take_up(bytes)) {
+        (true, taken) => taken.map(|(_, study)| Kept { study, length }),
+        (false, Ok(_)) => Err(Fault::damage(format!("{other}: the engine takes it, but it is not the save that was kept"))),
+        (false, Err(fault)) => Err(fault.of_others(&other)),
     }
 }
 

@@ -2,6 +2,7 @@
 
 mod common;
 
+use cichowiej::Constants;
 use common::{Folder, HEAD, with};
 use std::fs;
 
@@ -136,7 +137,22 @@ fn values_that_no_head_has_are_named() {
         ("eps_inf = 2.0", "eps_inf = 0.5", 36, "sheet.moisture[0].material.eps_inf", "1 or more"),
         ("sigma = 0.1", "sigma = -0.1", 36, "sheet.moisture[0].material.sigma", "0 or more"),
         ("delta_eps = 2.0", "delta_eps = -2.0", 40, "sheet.moisture[1].material.poles[0].debye.delta_eps", "0 or more"),
-        ("tau = \"4 ps\"", "tau = 0", 40, "sheet.moisture[1].material.poles[0].debye.tau", "or more"),
+        (
+            "tau = \"4 ps\"",
+            "tau = \"-4 ps\"",
+            40,
+            "sheet.moisture[1].material.poles[0].debye.tau",
+            "-4e-12 has to be a finite number, clearly above 0",
+        ),
+        ("tau = \"4 ps\"", "tau = inf", 40, "sheet.moisture[1].material.poles[0].debye.tau", "inf has to be a finite number"),
+        (
+            "tau = \"4 ps\"",
+            "tau = 1e-320",
+            40,
+            "sheet.moisture[1].material.poles[0].debye.tau",
+            "1e-320 has to be a finite number",
+        ),
+        ("sigma = 0.1", "mu_r = 0", 36, "sheet.moisture[0].material.mu_r", "0.0 has to be a finite number, clearly above 0"),
         ("pitch = \"1 mm\"", "pitch = \"1,0 mm\"", 6, "grid.pitch", "decimal point"),
         ("width = \"80 ps\"", "width = \"-80 ps\"", 18, "source.modulated.width", "larger than 0"),
         ("delay = \"400 ps\"", "delay = inf", 19, "source.modulated.delay", "0 or more"),
@@ -197,6 +213,70 @@ fn the_engines_refusals_name_the_line_whose_call_met_them() {
     refused(&[("[edge.layer]\naxes = [\"z\"]\nthickness = 10", lossy, 9, "edge", "10 BadOrder")]);
 }
 
+/// Document 02, S-2. What the head does not take for a slip the engine judges, with the head's time step and constants.
+#[test]
+fn poles_that_cannot_be_stepped_are_named() {
+    let key = "sheet.moisture[1].material.poles[0]";
+    let (debye, tau) = ("{ debye = { delta_eps = 2.0, tau = \"4 ps\" } }", "tau = \"4 ps\"");
+    let told = |words: &str| format!("refused as 19 BadPole: pole 0 of the sheet at moisture 10 %, {words}");
+    let dt = 0.5 * Constants::Old.largest_dt([1e-3; 3]);
+    let instant = told(&format!(
+        "Debye with delta_eps = 2.0 and tau = 0.0 s, cannot be stepped with dt = {dt:?} s: a relaxation time of 0? take one above 0\n"
+    ));
+    let other = format!(
+        "cannot be stepped with dt = {dt:?} s: take other numbers for it, or another time step: a1, a2 or a3 of its recursion is not finite\n"
+    );
+    let of_debye = told(&format!("Debye with delta_eps = 1e308 and tau = 1e-300 s, {other}"));
+    let of_lorentz = told(&format!("Lorentz with delta_eps = 2.0, omega0 = 1e200 rad/s and gamma = 0.0 rad/s, {other}"));
+    let of_drude = told(&format!("Drude with omega_p = inf rad/s and gamma = 1.0 rad/s, {other}"));
+    let lorentz = "{ lorentz = { delta_eps = 2.0, omega0 = 1e200, gamma = 0 } }";
+    refused(&[
+        (tau, "tau = 0", 40, &format!("{key}.debye.tau"), &instant),
+        (tau, "tau = \"0 ps\"", 40, &format!("{key}.debye.tau"), &instant),
+        (debye, "{ debye = { delta_eps = 1e308, tau = 1e-300 } }", 40, key, &of_debye),
+        (debye, lorentz, 40, key, &of_lorentz),
+        (debye, "{ drude = { omega_p = inf, gamma = 1 } }", 40, key, &of_drude),
+        // the second of two, on its own line
+        (
+            debye,
+            &format!("\n  {debye},\n  {lorentz},\n"),
+            42,
+            "sheet.moisture[1].material.poles[1]",
+            "19 BadPole: pole 1 of the sheet",
+        ),
+        (tau, "tau = -0.0", 40, &format!("{key}.debye.tau"), "a relaxation time of 0?"),
+    ]);
+}
+
+/// The refusals in the engine's order: 2 and 6 before 19, 19 before 5.
+#[test]
+fn a_pole_that_cannot_be_stepped_has_its_place_among_the_refusals() {
+    let bad = |head: &str| head.replace("tau = \"4 ps\"", "tau = 0");
+    let first = |head: String, words: &str| {
+        let (status, out, err) = Folder::new(&head).curve(&[]);
+        assert!((status, out.as_str()) == (1, "") && err.contains(words), "{err}");
+    };
+    let with = |new: &str| HEAD.replace("courant = 0.5", new);
+    first(bad(&with("courant = nan")), "head.toml:4: grid: refused as 2 BadSpacing");
+    first(bad(&with("courant = 0.5\npole_slots = 0")), "head.toml:39: sheet.moisture[1]: refused as 6 TooManyPoles");
+    let many: String = (0..16).map(|i| format!("[materials.m{i:02}]\neps_inf = 2.0\n")).collect();
+    let last = "poles = [{ debye = { delta_eps = 1.0, tau = 1 } }]\n";
+    let full = HEAD.replace("[planes]", &format!("{many}{last}[planes]"));
+    first(full.clone(), "head.toml:51: materials.m15: refused as 5 Full");
+    let words = "head.toml:53: materials.m15.poles[0].debye.tau: refused as 19 BadPole: pole 0 of material \"m15\", Debye with ";
+    first(full.replace("tau = 1 ", "tau = 0 "), words);
+}
+
+/// A pole that only the longer time step cannot step.
+#[test]
+fn poles_are_judged_with_the_heads_time_step() {
+    for (dt, is_bad) in [("1e8", false), ("1e9", true)] {
+        let head = HEAD.replace("tau = \"4 ps\"", "tau = 1e-300").replace("courant = 0.5", &format!("dt = {dt}"));
+        let (status, _, err) = Folder::new(&head).curve(&["--plan", "list"]);
+        assert_eq!((status, err.contains("poles[0]: refused as 19 BadPole: ")), (i32::from(is_bad), is_bad), "{dt}: {err}");
+    }
+}
+
 #[test]
 fn what_is_no_toml_is_named_with_its_line() {
     let cases = [
@@ -234,6 +314,16 @@ fn slips_in_the_paper_are_named() {
             "it is 100.0000 um, and the sheet's 5 cells along z are 104.0000 um thick: take a pitch of 20.0000 um",
         ),
         ("temperature = 20", "temperature = 293", "it is in °C"),
+        (
+            "tau = \"9.36 ps\"",
+            "tau = 0",
+            "sheet.paper.water.material.poles[0].debye.tau: refused as 19 BadPole: pole 0 of water, in the sheet at moisture 2 %, Debye with delta_eps = 74.6 and tau = 0.0 s",
+        ),
+        (
+            "material = { eps_inf = 6.5 }",
+            "material = { eps_inf = 6.5, poles = [{ lorentz = { delta_eps = 0, omega0 = 1e200, gamma = 0 } }, { drude = { omega_p = 1e200, gamma = 0 } }] }",
+            "sheet.paper.fibre.material.poles[1]: refused as 19 BadPole: pole 1 of fibre, in the sheet at moisture 2 %, Drude with omega_p = 1e200 rad/s",
+        ),
     ];
     for (old, new, words) in cases {
         assert_eq!(example.matches(old).count(), 1, "{old}");

@@ -5,7 +5,7 @@ mod child;
 
 use assert_cmd::cargo::cargo_bin;
 use child::{Running, make_pipe, until};
-use cichowiej::{CellBox, Constants, CpmlConfig, Grid, Material, MaterialId, Pole, Put, REFUSALS, Source, Study};
+use cichowiej::{CellBox, Constants, CpmlConfig, Grid, Material, MaterialId, Pole, Put, Refusal, Source, Study};
 use std::fs;
 use std::io::Read;
 use std::os::unix::fs::symlink;
@@ -368,9 +368,59 @@ fn refusals_end_with_1() {
     ];
     for (lines, line, number) in cases {
         let (status, _, err) = Folder::new(&format!("size 1 1 24 poles=1\npitch 1mm courant=0.5\nbuild\n{lines}\n")).run(&[]);
-        let refusal = REFUSALS[number - 1];
+        let refusal = Refusal::numbered(number).unwrap();
         assert!(status == 1 && err.contains(&format!("s.txt:{line}: refused as {refusal}")), "{lines}: {err}");
     }
+}
+
+/// Document 02, S-2: the pole's own line, its number, its kind and what it has.
+#[test]
+fn poles_that_cannot_be_stepped_are_named_with_their_lines() {
+    let dt = 0.5 * Constants::Old.largest_dt([1e-3; 3]);
+    let other = "take other numbers for it, or another time step: a1, a2 or a3 of its recursion is not finite";
+    let cases = [
+        ("debye delta_eps=2 tau=0", "Debye with delta_eps = 2.0 and tau = 0.0 s", "a relaxation time of 0? take one above 0"),
+        ("debye delta_eps=2 tau=0ps", "Debye with delta_eps = 2.0 and tau = 0.0 s", "a relaxation time of 0? take one above 0"),
+        ("debye delta_eps=2 tau=1e-321", "Debye with delta_eps = 2.0 and tau = 1e-321 s", other),
+        ("debye delta_eps=2 tau=nan", "Debye with delta_eps = 2.0 and tau = NaN s", other),
+        (
+            "lorentz delta_eps=1 omega0=1e200 gamma=0",
+            "Lorentz with delta_eps = 1.0, omega0 = 1e200 rad/s and gamma = 0.0 rad/s",
+            other,
+        ),
+        ("drude omega_p=1e200rad/s gamma=1", "Drude with omega_p = 1e200 rad/s and gamma = 1.0 rad/s", other),
+    ];
+    for (pole, words, advice) in cases {
+        let good = "size 1 1 24 poles=2\npitch 1mm courant=0.5\nmaterial paper eps_inf=3\npole debye delta_eps=1 tau=1ps\n";
+        let (status, out, err) = Folder::new(&format!("{good}# the other\n\n  pole {pole}\nenergy\n")).run(&[]);
+        let told = format!("pole 1 of material \"paper\", {words}, cannot be stepped with dt = {dt:?} s: {advice}");
+        assert_eq!((status, out.as_str(), err), (1, "", format!("cichowiej: s.txt:7: refused as 19 BadPole: {told}\n")));
+    }
+}
+
+/// By the time step and the constants of the study that stands; 6 comes before 19, and 19 before 5.
+#[test]
+fn poles_are_judged_by_the_study_that_stands() {
+    let tried = |script: &str| Folder::new(script).run(&[]);
+    let on_the_edge =
+        format!("material m eps_inf=1\npole debye delta_eps=1.7e308 tau={:?}\n", f64::from_bits(0x3DA269973FB889A1));
+    let opened = |poles: usize, set: &str, dt: &str| format!("size 1 1 9 poles={poles} constants={set}\npitch 1mm dt={dt}\n");
+    let (status, out, _) = tried(&(opened(1, "2019", "1") + &on_the_edge + "material n eps_inf=2\n"));
+    assert_eq!((status, out.as_str()), (0, "material m 1\nmaterial n 2\n"));
+    let (status, _, err) = tried(&(opened(1, "old", "1") + &on_the_edge));
+    assert!(status == 1 && err.contains("s.txt:4: refused as 19 BadPole: pole 0 of material \"m\""), "{err}");
+    // taken in the first study, refused in the second, whose steps are longer
+    let short = "material m eps_inf=1\npole debye delta_eps=1 tau=1e-300\n";
+    let (status, out, err) = tried(&(opened(1, "old", "1ps") + short + &opened(1, "old", "1e9") + short));
+    assert!(status == 1 && out == "material m 1\n" && err.contains("s.txt:8: refused as 19 BadPole: "), "{err}");
+    let bad = "material m eps_inf=1\npole debye delta_eps=1 tau=0\n";
+    let (_, _, err) = tried(&(opened(0, "old", "1ps") + bad));
+    assert!(err.contains(&format!("s.txt:3: refused as {}", Refusal::TooManyPoles)), "{err}");
+    let many: String = (1..16).map(|i| format!("material m{i} eps_inf=2\n")).collect();
+    let (_, _, err) = tried(&(opened(1, "old", "1ps") + &many + bad));
+    assert!(err.contains("s.txt:19: refused as 19 BadPole: pole 0 of material \"m\""), "{err}");
+    let (_, _, err) = tried(&(opened(1, "old", "1ps") + &many + &bad.replace("tau=0", "tau=1ps")));
+    assert!(err.contains(&format!("s.txt:18: refused as {}", Refusal::Full)), "{err}");
 }
 
 /// Slips that are no faults are told on standard error, with their line.

@@ -43,7 +43,7 @@ pub const ENGINE: &str =
 pub use absorber::{CpmlConfig, Functions, tables, tables_with};
 pub use constants::Constants;
 pub use file::{folder, followed, sync_folder, write_new, write_whole};
-pub use material::{Material, Pole};
+pub use material::{Material, Pole, pole_place};
 pub use refusal::{REFUSALS, Refusal};
 pub use source::Source;
 pub use spectrum::{Complex, PlaneSpectrum};

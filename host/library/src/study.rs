@@ -3,7 +3,7 @@
 use crate::absorber::{CpmlConfig, tables};
 use crate::bindings::{self, Lent, cichowiej_cfl_number};
 use crate::constants::Constants;
-use crate::material::{Material, Pole};
+use crate::material::Material;
 use crate::maths;
 use crate::refusal::Refusal;
 use crate::stores::{BLOCK_LENGTH, LINE_PAD, MATERIAL_LENGTH, MAX_POLE_SLOTS, MOST_MATERIALS, bytes, lent, sizes_fit};
@@ -340,13 +340,7 @@ impl Study {
     pub fn material(&self, id: MaterialId) -> Option<Material> {
         let number = usize::try_from(id.number()).ok().filter(|number| *number < self.material_count())?;
         let at = BLOCK_LENGTH - MATERIAL_LENGTH * MOST_MATERIALS + MATERIAL_LENGTH * number;
-        let double = |from: usize| self.double(at + from);
-        let pole = |place: usize| {
-            let from = 25 + 25 * place;
-            Pole::from_tagged(self.lent.block[at + from], [double(from + 1), double(from + 9), double(from + 17)])
-        };
-        let count = usize::from(self.lent.block[at + 24]).min(MAX_POLE_SLOTS);
-        Some(Material { eps_inf: double(0), sigma: double(8), mu_r: double(16), poles: (0..count).filter_map(pole).collect() })
+        Material::from_bytes(self.lent.block.get(at..)?.first_chunk()?)
     }
 
     pub fn periodic(&self) -> [bool; 3] {

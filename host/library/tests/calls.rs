@@ -1,6 +1,7 @@
 //! The library's calls: each refusal, what it leaves, saves, constants, threads, the layer that is told.
 
-use cichowiej::{CellBox, Constants, CpmlConfig, Field, Grid, Material, Pole, Put, REFUSALS, Refusal, Source, Study};
+use cichowiej::{CellBox, Constants, CpmlConfig, Field, Grid, Material, MaterialId, Pole, Put, Refusal, Source, Study};
+use cichowiej::{MATERIAL_LENGTH, REFUSALS, pole_place};
 use std::path::Path;
 use std::{fs, thread};
 
@@ -66,6 +67,127 @@ fn calls_are_refused_and_change_nothing() {
         study.add_material(&Material::plain(2.0)).unwrap();
     }
     refused(&mut study, |s| s.add_material(&Material::plain(2.0)), Refusal::Full);
+}
+
+/// A Debye pole whose a3 lies above the largest double by the old constants and below it by those of 2019, at a time step of 1 s.
+fn on_the_edge() -> Pole {
+    Pole::Debye { delta_eps: 1.7e308, tau: f64::from_bits(0x3DA269973FB889A1) }
+}
+
+/// Document 02, S-2: poles, a time step and constants, and whether the pole cannot be stepped with them.
+fn poles() -> Vec<(Pole, f64, Constants, bool)> {
+    let debye = |delta_eps, tau| Pole::Debye { delta_eps, tau };
+    let lorentz = |delta_eps, omega0, gamma| Pole::Lorentz { delta_eps, omega0, gamma };
+    let drude = |omega_p, gamma| Pole::Drude { omega_p, gamma };
+    let by_the_old = [
+        (debye(2.0, 0.0), 1e-12, true),
+        (debye(2.0, -0.0), 1e-12, true),
+        (debye(0.0, 0.0), 1e-12, true),
+        (debye(2.0, 1e-321), 1e-12, true),
+        (debye(2.0, 1e-321), 1e-13, false),
+        (debye(2.0, 0.5f64.powi(1023)), 1.0, false),
+        (debye(2.0, 0.5f64.powi(1024)), 1.0, true),
+        (debye(2.0, f64::INFINITY), 1e-12, false),
+        (debye(f64::INFINITY, 1e-12), 1e-12, true),
+        (debye(2.0, f64::NAN), 1e-12, true),
+        (lorentz(2.0, 2e11, 1e10), 1e-12, false),
+        (lorentz(2.0, 1e200, 1e10), 1e-12, true),
+        (lorentz(0.0, 0.0, f64::INFINITY), 1e-12, true),
+        // 1 + gamma dt / 2 is 0
+        (lorentz(2.0, 1.0, -2.0), 1.0, true),
+        (drude(1e200, 1e9), 1e-12, true),
+        (drude(1e150, 1e9), 1e-12, false),
+        (drude(1.0, -4.0), 0.5, true),
+        (on_the_edge(), 1.0, true),
+    ];
+    let by_the_new = [(on_the_edge(), 1.0, false), (debye(2.0, 0.0), 1e-12, true)];
+    let with = |constants| move |(pole, dt, is_bad)| (pole, dt, constants, is_bad);
+    by_the_old.map(with(Constants::Old)).into_iter().chain(by_the_new.map(with(Constants::Si2019))).collect()
+}
+
+#[test]
+fn poles_that_cannot_be_stepped_are_refused() {
+    for (pole, dt, constants, is_bad) in poles() {
+        let mut study = Study::open(&Grid { dt, constants, ..grid([1, 1, 3]) }).unwrap();
+        let material = Material::plain(2.0).with_pole(pole);
+        assert_eq!(pole.ade_coeffs(dt, constants).err(), is_bad.then_some(Refusal::BadPole), "{pole:?} {dt:e} {constants}");
+        assert_eq!(material.bad_poles(dt, constants).len(), usize::from(is_bad));
+        if is_bad {
+            refused(&mut study, |s| s.add_material(&material), Refusal::BadPole);
+            assert_eq!(material.alternating(dt, constants), f64::NEG_INFINITY, "it has no stable step: {pole:?}");
+        } else {
+            let id = study.add_material(&material).unwrap();
+            assert_eq!(study.material(id), Some(material));
+        }
+    }
+}
+
+/// 6 comes before 19, and 19 before 5.
+#[test]
+fn a_bad_pole_has_its_place_among_the_refusals() {
+    let bad = Material::plain(2.0).with_pole(Pole::Debye { delta_eps: 2.0, tau: 0.0 });
+    let mut none = Study::open(&Grid { pole_slots: 0, ..grid([1, 1, 3]) }).unwrap();
+    refused(&mut none, |s| s.add_material(&bad), Refusal::TooManyPoles);
+    let mut full = line(3);
+    for _ in 1..16 {
+        full.add_material(&debye()).unwrap();
+    }
+    refused(&mut full, |s| s.add_material(&bad), Refusal::BadPole);
+    refused(&mut full, |s| s.add_material(&debye()), Refusal::Full);
+    let two = debye().with_pole(bad.poles[0]);
+    assert_eq!(two.bad_poles(grid([1; 3]).dt, Constants::Old), [1]);
+    refused(&mut full, |s| s.add_material(&two), Refusal::TooManyPoles);
+}
+
+/// By hand, each operation rounded in the order in which the formula of document 01's Rust has it.
+#[test]
+fn coefficients_are_those_of_the_recursion() {
+    for constants in Constants::ALL {
+        let eps0 = constants.eps0();
+        let debye = Pole::Debye { delta_eps: 3.0, tau: 8.0 };
+        assert_eq!(debye.ade_coeffs(1.0, constants), Ok([0.875, 0.0, eps0 * 3.0 / 8.0]));
+        let drude = Pole::Drude { omega_p: 2.0, gamma: 2.0 };
+        assert_eq!(drude.ade_coeffs(1.0, constants), Ok([1.0, 0.0, eps0 * 4.0 / 2.0]));
+        let lorentz = Pole::Lorentz { delta_eps: 3.0, omega0: 2.0, gamma: 1.0 };
+        assert_eq!(lorentz.ade_coeffs(2.0, constants), Ok([-7.0, 0.0, eps0 * 12.0 * 4.0 / 2.0]));
+    }
+}
+
+#[test]
+fn a_material_reads_back_from_its_bytes() {
+    for (pole, ..) in poles() {
+        let bytes = debye().with_sigma(0.5).with_pole(pole).bytes();
+        let read = |bytes: &[u8; MATERIAL_LENGTH]| Material::from_bytes(bytes).map(|material| material.bytes());
+        assert_eq!(read(&bytes), Some(bytes), "{pole:?}");
+        let with = |at: usize, byte: u8| {
+            let mut changed = bytes;
+            changed[at] = byte;
+            read(&changed)
+        };
+        assert_eq!([with(24, 3), with(24, 5), with(pole_place(0), 7), with(pole_place(1), 0)], [None; 4]);
+        assert_eq!(with(pole_place(2), 7), Some(bytes), "a place that is not counted");
+    }
+}
+
+/// The save that a library wrote which took such poles, and one that is damaged behind it.
+#[test]
+fn a_save_with_a_pole_that_cannot_be_stepped_is_refused() {
+    let mut study = line(3);
+    study.add_material(&debye()).unwrap();
+    let (save, material) = (study.save().unwrap(), study.material(MaterialId::numbered(1)).unwrap().bytes());
+    let at = save.windows(material.len()).position(|bytes| bytes == material).unwrap();
+    let tau = at + pole_place(0) + 9;
+    let mut bad = save.clone();
+    bad[tau..tau + 8].fill(0);
+    assert_eq!(Study::from_save(&bad).map(|_| ()), Err(Refusal::BadRecord));
+    refused(&mut study, |s| s.rewind(&bad), Refusal::BadRecord);
+    // ML ends with this material, and CI's mark follows
+    let mark = at + material.len();
+    assert_eq!(&bad[mark..mark + 2], b"CI");
+    bad[mark] = b'X';
+    assert_eq!(Study::from_save(&bad).map(|_| ()), Err(Refusal::BadRecord));
+    bad[tau..tau + 8].copy_from_slice(&save[tau..tau + 8]);
+    assert_eq!(Study::from_save(&bad).map(|_| ()), Err(Refusal::BadMark));
 }
 
 /// Document 02, S-5: how many cells, by the ranges cut to the grid; three numbers leave the ids, and with them the poles.
@@ -191,12 +313,25 @@ fn a_save_has_its_studys_constants() {
     assert_eq!(changed(2, 73), Refusal::BadMark);
 }
 
-/// The saves that the library wrote before there was a choice.
+/// A save that the library wrote before there was a choice.
+fn older(name: &str) -> Vec<u8> {
+    fs::read(Path::new(env!("CARGO_MANIFEST_DIR")).join(format!("../../oracle/compare/old/{name}.save"))).unwrap()
+}
+
+/// The third of them, which has a pole with a strength of NaN, refused now; and with another strength.
+fn older_with_a_bad_pole() -> Vec<u8> {
+    let mut save = older("nan");
+    assert_eq!(Study::from_save(&save).map(|_| ()), Err(Refusal::BadRecord));
+    // behind the frames of GH and ML, GH, the vacuum, and the pole's tag
+    let at = 2 * 6 + 73 + MATERIAL_LENGTH + pole_place(0) + 1;
+    assert_eq!(save[at..at + 8], f64::NAN.to_le_bytes());
+    save[at..at + 8].copy_from_slice(&2f64.to_le_bytes());
+    save
+}
+
 #[test]
 fn older_saves_have_the_old_constants() {
-    for name in ["small", "poles", "nan"] {
-        let path = Path::new(env!("CARGO_MANIFEST_DIR")).join(format!("../../oracle/compare/old/{name}.save"));
-        let old = fs::read(path).unwrap();
+    for (name, old) in [("small", older("small")), ("poles", older("poles")), ("nan", older_with_a_bad_pole())] {
         assert_eq!(old[2..6], [73, 0, 0, 0], "{name}");
         let study = Study::from_save(&old).unwrap();
         assert_eq!(study.grid().constants, Constants::Old);
@@ -209,12 +344,28 @@ fn older_saves_have_the_old_constants() {
     }
 }
 
+/// As BAD_POLE of the header is BadPole.
+fn as_in_rust(name: &str) -> String {
+    name.split('_').map(|word| word[..1].to_string() + &word[1..].to_lowercase()).collect()
+}
+
+/// Those of the header, in its order, and no others; a number between them that is none's is none.
 #[test]
-fn refusals_have_document_01s_numbers_and_say_what_to_change() {
-    for (at, refusal) in REFUSALS.into_iter().enumerate() {
-        assert_eq!(refusal.number() as usize, at + 1);
-        let text = refusal.to_string();
-        assert!(text.starts_with(&format!("{} {}: ", at + 1, refusal.name())) && text.len() > 30, "{text}");
+fn refusals_have_the_headers_numbers_and_say_what_to_change() {
+    let header = fs::read_to_string(Path::new(env!("CARGO_MANIFEST_DIR")).join("../../include/cichowiej.h")).unwrap();
+    let (_, rest) = header.split_once("#define CICHOWIEJ_ACCEPTED 0\n").unwrap();
+    let (list, _) = rest.split_once("/* ---- ").unwrap();
+    let defined = list.lines().filter_map(|line| line.strip_prefix("#define CICHOWIEJ_"));
+    let words = defined.map(|line| line.split_whitespace().collect::<Vec<_>>());
+    let wanted: Vec<(String, u32)> = words.map(|words| (as_in_rust(words[0]), words[1].parse().unwrap())).collect();
+    let known: Vec<(String, u32)> = REFUSALS.iter().map(|refusal| (refusal.name().into(), refusal.number())).collect();
+    assert_eq!(known, wanted);
+    assert!(wanted.contains(&("BadPole".into(), 19)));
+    for number in 0..100 {
+        let found = Refusal::numbered(number);
+        assert_eq!(found.map(|refusal| refusal.name()), wanted.iter().find(|(_, n)| *n == number).map(|(name, _)| name.as_str()));
+        let text = found.map(|refusal| (refusal.to_string(), format!("{number} {}: ", refusal.name())));
+        assert!(text.is_none_or(|(text, begin)| text.starts_with(&begin) && text.len() > 30), "{found:?}");
     }
 }
 
@@ -271,7 +422,12 @@ fn nothing_panics() {
         let cells = CellBox { x: (a, b), y: (b, c), z: (c, a) };
         let _ = match next() % 14 {
             0 => study.put_box(cells, Put::Numbers { eps_r: x, mu_r: y, sigma: x }).map(|_| ()),
-            1 => study.add_material(&debye().with_sigma(x)).map(|_| ()),
+            1 => {
+                let material = Material::plain(x).with_pole(Pole::Debye { delta_eps: x, tau: y });
+                let (added, Grid { dt, constants, .. }) = (study.add_material(&material), study.grid());
+                assert_eq!(added == Err(Refusal::BadPole), !material.bad_poles(dt, constants).is_empty());
+                added.map(|_| ())
+            }
             2 => study.set_periodic([x > y, y > x, true]),
             3 => study.set_boundary_lossy(a, b, x),
             4 => {

@@ -2,8 +2,10 @@
 
 use crate::call::{Call, Numbers};
 use crate::engine::Put;
-use crate::engine::block::{Material, Pole, Record, Region};
+use crate::engine::block::{Material, Record, Region};
 use crate::fill::{Fill, STORES, Store, tables};
+use crate::judge::poles::first_bad;
+use crate::poles::{Poles, ruined};
 #[cfg(original)]
 use crate::theirs::built_tables;
 use crate::{Mix, Random, engine, save};
@@ -91,7 +93,9 @@ impl Chooser {
 
     /// What comes before all else in an opened study: materials, and something in every store.
     pub fn first(&self, random: &mut Random) -> Vec<Call> {
-        let materials = (0..self.library).map(|_| Call::AddMaterial(self.material(random)));
+        let constants = self.constants as u8;
+        let materials =
+            (0..self.library).map(|_| Call::AddMaterial(self.material(random, constants)));
         let mut calls: Vec<Call> = materials.collect();
         calls.extend(STORES.map(|store| {
             let (seed, mix) = (random.bits(), self.mix);
@@ -100,8 +104,14 @@ impl Chooser {
         calls
     }
 
-    /// The call after `done` others; the first few set things up, and no step is among them.
+    /// The call after `done` others; the first few set things up, and no step is among them. A record that is refused
+    /// for a pole is mended after a few calls.
     pub fn next(&self, random: &mut Random, record: &Record, done: u64) -> Call {
+        if random.once_in(4)
+            && let Some(mending) = self.mending(random, record)
+        {
+            return mending;
+        }
         let kind = match done < self.setup {
             true => 15 + random.below(17),
             false => random.below(45),
@@ -112,7 +122,7 @@ impl Chooser {
                 let samples = 1 + random.below(4);
                 Call::Run((0..samples).map(|_| random.number(1.0, self.mix)).collect())
             }
-            15 | 16 => Call::AddMaterial(self.material(random)),
+            15 | 16 => Call::AddMaterial(self.material(random, record.constants)),
             17 | 18 => Call::PutBox {
                 what: Put::Library(self.id(random, record)),
                 cells: self.cells(random),
@@ -147,7 +157,7 @@ impl Chooser {
 
     /// Something put into the block that no call leaves there, or a study opened anew.
     fn by_hand(&self, random: &mut Random, record: &Record) -> Call {
-        match random.below(17) {
+        match random.below(19) {
             0..=3 if record.layer_on => Call::PutActive(axes(random)),
             0..=4 => self.put_steps(random),
             5 => Call::PutTime(random.number(1e-9, self.mix)),
@@ -156,6 +166,7 @@ impl Chooser {
             11..=13 => Call::PutRegion(self.any_region(random)),
             14 => self.put_material(random, record),
             15 => Call::PutConstants(random.index(2) as u8),
+            16 | 17 => self.ruin_material(random, record),
             _ => self.opening_anew(random),
         }
     }
@@ -184,8 +195,24 @@ impl Chooser {
             0 => 0,
             _ => random.index(self.pole_slots + 1),
         };
-        let material = self.material_of(random, count);
+        let material = self.material_of(random, count, record.constants);
         Call::PutMaterial { id, material }
+    }
+
+    /// A pole that cannot be stepped in a material that stands, where one may have a pole.
+    fn ruin_material(&self, random: &mut Random, record: &Record) -> Call {
+        match ruined(random, record, self.mix) {
+            Some((id, material)) => Call::PutMaterial { id, material },
+            None => self.put_material(random, record),
+        }
+    }
+
+    /// Another material in the place of the first that has a pole which cannot be stepped.
+    pub fn mending(&self, random: &mut Random, record: &Record) -> Option<Call> {
+        let id = first_bad(record)?;
+        let count = record.materials[id].poles.len();
+        let material = self.material_of(random, count, record.constants);
+        Some(Call::PutMaterial { id, material })
     }
 
     /// A region of any kind, or none, with any corners inside.
@@ -258,39 +285,37 @@ impl Chooser {
         ]
     }
 
-    fn material(&self, random: &mut Random) -> Material {
+    /// Now and then with more poles than slots, or with a pole that cannot be stepped.
+    fn material(&self, random: &mut Random, constants: u8) -> Material {
         let count = match random.once_in(self.refused) {
             true => self.pole_slots + 1 + random.index(5 - self.pole_slots.min(4)),
             false => random.index(self.pole_slots + 1),
         };
-        self.material_of(random, count)
+        let mut material = self.material_of(random, count, constants);
+        if count != 0 && random.once_in(self.refused) {
+            material.poles[random.index(count)] = self.poles(constants).bad(random);
+        }
+        material
     }
 
-    fn material_of(&self, random: &mut Random, count: usize) -> Material {
+    fn material_of(&self, random: &mut Random, count: usize, constants: u8) -> Material {
         let [eps_inf, mu_r, sigma] = self.medium(random);
+        let poles = self.poles(constants);
         Material {
             eps_inf,
             sigma,
             mu_r,
             pole_count: count as u8,
-            poles: (0..count).map(|_| self.pole(random)).collect(),
+            poles: (0..count).map(|_| poles.good(random)).collect(),
         }
     }
 
-    /// Frequencies below one over dt, so that the polarizations move and do not explode, or above it,
-    /// where a1 turns its sign. A NaN keeps its bits.
-    fn pole(&self, random: &mut Random) -> Pole {
-        let dt = self.spacings[3];
-        let tag = 1 + random.below(3) as u8;
-        let size = [0.3, 0.3, 3.0][random.index(3)];
-        let [rate, gamma] = [0; 2].map(|_| quotient(random.above_zero(size, self.mix), dt));
-        let strength = random.above_zero(3.0, self.mix);
-        let numbers = match tag {
-            1 => [strength, rate, gamma],
-            2 => [rate, gamma, 0.0],
-            _ => [strength, quotient(1.0, gamma), 0.0],
-        };
-        Pole { tag, numbers }
+    fn poles(&self, constants: u8) -> Poles {
+        Poles {
+            dt: self.spacings[3],
+            constants,
+            mix: self.mix,
+        }
     }
 
     fn lossy(&self, random: &mut Random) -> Call {
@@ -379,12 +404,6 @@ impl Chooser {
             _ => Call::BoxRegion([i0, i1, j0, j1, k0, k1]),
         }
     }
-}
-
-/// x over y; where one of them is a NaN, that one with all its bits.
-fn quotient(x: f64, y: f64) -> f64 {
-    let nan = [x, y].into_iter().find(|x| x.is_nan());
-    nan.unwrap_or(x / y)
 }
 
 /// A store to be filled: more often one that a call has cleared and a step reads.

@@ -4,10 +4,11 @@ mod fields;
 
 use std::ops::Range;
 
-use crate::Random;
 use crate::engine::Study;
 use crate::engine::block::{DOUBLES, HEAD, MATERIAL, PLACES, Record};
+use crate::poles::ruined;
 use crate::save::{self, FRAME, MARKS, OLD_HEAD};
+use crate::{Random, sound};
 
 use fields::{head_field, library_fields, nan};
 
@@ -39,6 +40,8 @@ pub enum Damage {
     /// A field of GH or ML at its limit, or past it.
     Head,
     Library,
+    /// A pole that cannot be stepped in a counted place, where a material may have a pole.
+    BadPole,
     /// A byte that must be zero.
     Unused,
     Nan,
@@ -49,7 +52,7 @@ pub enum Damage {
 
 use Damage::*;
 
-pub const DAMAGES: [Damage; 22] = [
+pub const DAMAGES: [Damage; 23] = [
     Nothing,
     Bits,
     HeadBits,
@@ -67,6 +70,7 @@ pub const DAMAGES: [Damage; 22] = [
     HeadLength,
     Head,
     Library,
+    BadPole,
     Unused,
     Nan,
     Number,
@@ -75,8 +79,8 @@ pub const DAMAGES: [Damage; 22] = [
 ];
 
 /// Those that leave every record at its place.
-const IN_PLACE: [Damage; 10] = [
-    Bits, HeadBits, Mark, Length, HeadLength, Head, Library, Unused, Nan, Number,
+const IN_PLACE: [Damage; 11] = [
+    Bits, HeadBits, Mark, Length, HeadLength, Head, Library, BadPole, Unused, Nan, Number,
 ];
 
 /// A sound save, its record, and where its records stand.
@@ -180,9 +184,14 @@ impl Sound {
                 self.put(random, 0, FRAME + field, &value, bytes);
             }
             Library => {
-                let start = self.places[1].start + FRAME;
                 for (field, value) in library_fields(random, &self.record) {
-                    self.put(random, 1, start + field, &value, bytes);
+                    self.put(random, 1, self.entry(0) + field, &value, bytes);
+                }
+            }
+            BadPole => {
+                if let Some((id, material)) = ruined(random, &self.record, sound::ODD) {
+                    let entry = self.entry(id);
+                    self.put(random, 1, entry, &material.write(), bytes);
                 }
             }
             Unused => {
@@ -230,6 +239,16 @@ impl Sound {
             1 if end + 2 <= bytes.len() => mark(random, &mut bytes[end..end + 2]),
             _ => {}
         }
+    }
+
+    /// Where a material begins in ML.
+    pub fn entry(&self, id: usize) -> usize {
+        self.places[1].start + FRAME + MATERIAL * id
+    }
+
+    /// Where ML ends, and CI begins.
+    pub fn end_of_library(&self) -> usize {
+        self.places[1].end
     }
 
     /// A place to cut at: anywhere, or by the end of a record.
@@ -301,7 +320,7 @@ impl Sound {
         }
         let mut places = Vec::new();
         for (m, material) in self.record.materials.iter().enumerate() {
-            let entry = self.places[1].start + FRAME + MATERIAL * m;
+            let entry = self.entry(m);
             for place in 0..PLACES {
                 let start = entry + 25 + 25 * place;
                 match material.poles.get(place) {

@@ -1,9 +1,14 @@
-//! Which refusal a call has to answer: document 01, "What each call turns down", read once more, and document 02's S-5 and S-7.
+//! Which refusal a call has to answer: document 01, "What each call turns down", read once more, and document 02's S-2,
+//! S-5 and S-7.
+
+pub mod poles;
 
 use crate::call::Call;
 use crate::engine::block::{self, MATERIAL, MATERIALS, PLACES, Record};
 use crate::engine::{Put, Study};
 use crate::save;
+
+use poles::{all_pass, first_bad};
 
 pub const BAD_SIZE: u32 = 1;
 pub const BAD_SPACING: u32 = 2;
@@ -22,6 +27,7 @@ pub const BAD_MARK: u32 = 14;
 pub const BAD_RECORD: u32 = 15;
 pub const TRAILING: u32 = 16;
 pub const NO_SUCH_PLANE: u32 = 17;
+pub const BAD_POLE: u32 = 19;
 
 /// The highest number of a set of constants.
 const NEWEST: usize = 1;
@@ -107,11 +113,13 @@ pub fn adding(study: &Study, bytes: &[u8]) -> u32 {
     };
     let material = block::read_material(bytes);
     let poles = material.as_ref().map_or(0, |m| m.pole_count);
+    let pass = material.as_ref().is_none_or(|m| all_pass(m, &record));
     first([
         fault(&record),
         when(bytes.len() == MATERIAL && material.is_none(), BAD_STUDY),
         when(bytes.len() != MATERIAL, BAD_STORE),
         when(poles > record.pole_slots, TOO_MANY_POLES),
+        when(!pass, BAD_POLE),
         when(usize::from(record.material_count) == MATERIALS, FULL),
     ])
 }
@@ -147,7 +155,9 @@ fn head_contradicts(record: &Record) -> bool {
 fn library_contradicts(record: &Record) -> bool {
     let mut poles = record.materials.iter().map(|m| m.pole_count);
     let first = poles.next();
-    first.is_some_and(|n| n != 0) || poles.any(|n| n > record.pole_slots)
+    first.is_some_and(|n| n != 0)
+        || poles.any(|n| n > record.pole_slots)
+        || first_bad(record).is_some()
 }
 
 fn region_fits([nx, ny, nz]: [usize; 3], [i0, i1, j0, j1, k0, k1]: [usize; 6]) -> bool {

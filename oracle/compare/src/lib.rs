@@ -1,4 +1,4 @@
-//! What the comparisons share: the engine's calls, the original's side, random studies and doubles,
+//! What the comparisons share: the engine's calls, the original's side, random studies, poles and doubles,
 //! the save read once more, and when two numbers agree.
 
 use std::io::{Write, stdout};
@@ -13,6 +13,7 @@ pub mod difference;
 pub mod engine;
 pub mod fill;
 pub mod judge;
+pub mod poles;
 mod random;
 pub mod save;
 pub mod sound;

@@ -1,5 +1,5 @@
-//! The save, read once more from document 01's words and from document 02's S-7: a study written, and bytes judged and
-//! read.
+//! The save, read once more from document 01's words and from document 02's S-2 and S-7: a study written, and bytes
+//! judged and read.
 
 use crate::engine::Study;
 use crate::engine::block::{self, HEAD, MATERIAL, NAN, Record, double};

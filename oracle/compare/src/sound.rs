@@ -2,12 +2,13 @@
 
 use crate::choose::Chooser;
 use crate::engine::Study;
-use crate::engine::block::{MATERIALS, Material, PLACES, Pole, Record, Region};
+use crate::engine::block::{MATERIALS, Material, PLACES, Record, Region};
 use crate::judge;
+use crate::poles::Poles;
 use crate::{Mix, Random};
 
 /// Numbers with something odd among them.
-const ODD: Mix = Mix { odd: 60, zeros: 60 };
+pub const ODD: Mix = Mix { odd: 60, zeros: 60 };
 
 /// Few cells; now and then a line of them, and seldom the longest there is.
 pub fn small(random: &mut Random) -> [usize; 3] {
@@ -30,7 +31,8 @@ pub fn study(random: &mut Random, sizes: [usize; 3]) -> Study {
     grown(random, &chooser)
 }
 
-/// What a history of calls on the engine leaves, refused ones and the caller's own writing included.
+/// What a history of calls on the engine leaves, refused ones and the caller's own writing included; every pole is one
+/// that can be stepped.
 pub fn grown(random: &mut Random, chooser: &Chooser) -> Study {
     let mut study = Study::lent(chooser.sizes, chooser.pole_slots);
     assert_eq!(study.apply(&chooser.opening()).refusal, 0);
@@ -40,6 +42,9 @@ pub fn grown(random: &mut Random, chooser: &Chooser) -> Study {
     for done in 0..chooser.calls {
         let record = study.record().unwrap();
         study.apply(&chooser.next(random, &record, done));
+    }
+    while let Some(call) = chooser.mending(random, &study.record().unwrap()) {
+        study.apply(&call);
     }
     study
 }
@@ -63,13 +68,20 @@ fn record(random: &mut Random, sizes: [usize; 3]) -> Record {
     let pole_slots = random.index(PLACES + 1);
     let material_count = [1, 2, 1 + random.index(MATERIALS), MATERIALS][random.index(4)];
     let layer_on = random.once_in(2);
+    let spacings = [0; 4].map(|_| spacing(random));
+    let constants = random.index(2) as u8;
+    let poles = Poles {
+        dt: spacings[3],
+        constants,
+        mix: ODD,
+    };
     let materials = (0..material_count).map(|at| {
-        let poles = if at == 0 {
+        let count = if at == 0 {
             0
         } else {
             random.index(pole_slots + 1)
         };
-        material(random, poles)
+        material(random, count, poles)
     });
     let record = Record {
         sizes,
@@ -81,29 +93,23 @@ fn record(random: &mut Random, sizes: [usize; 3]) -> Record {
         pole_slots: pole_slots as u8,
         material_count: material_count as u8,
         region: region(random, sizes),
-        spacings: [0; 4].map(|_| spacing(random)),
+        spacings,
         time: random.number(1e-9, ODD),
         steps: random.bits() as u32 >> random.below(32),
-        constants: random.index(2) as u8,
+        constants,
     };
     assert_eq!(judge::fault(&record), 0);
     record
 }
 
-fn material(random: &mut Random, poles: usize) -> Material {
+fn material(random: &mut Random, count: usize, poles: Poles) -> Material {
     let [eps_inf, sigma, mu_r] = [0; 3].map(|_| random.number(4.0, ODD));
-    let pole = |_| {
-        let tag = 1 + random.below(3) as u8;
-        let [x, y, z] = [0; 3].map(|_| random.number(1e11, ODD));
-        let numbers = [x, y, if tag == 1 { z } else { 0.0 }];
-        Pole { tag, numbers }
-    };
     Material {
         eps_inf,
         sigma,
         mu_r,
-        pole_count: poles as u8,
-        poles: (0..poles).map(pole).collect(),
+        pole_count: count as u8,
+        poles: (0..count).map(|_| poles.good(random)).collect(),
     }
 }
 

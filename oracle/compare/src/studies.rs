@@ -1,5 +1,6 @@
 //! Random studies: a history of calls, each handed to the engine and to the original.
 
+mod poles;
 mod tally;
 
 use std::sync::Mutex;

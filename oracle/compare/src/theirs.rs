@@ -64,7 +64,7 @@ impl Theirs {
         on_side!(self, side => &side.expected)
     }
 
-    /// The call on the original, where document 01 accepts it, and the answer that is expected. Where
+    /// The call on the original, where the papers accept it, and the answer that is expected. Where
     /// another set of constants stands after it, the other original takes the study up.
     pub fn apply(&mut self, call: &Call) -> Answer {
         let answer = on_side!(self, side => side.apply(call));

@@ -1,4 +1,5 @@
-//! Random studies on the engine and on the original: after every call, block and stores are equal.
+//! Random studies on the engine and on the original: after every call, block and stores are equal. What is refused is
+//! refused as the papers have it; no pole that cannot be stepped comes to a step of the original.
 //!
 //! CICHOWIEJ_STUDIES sets their number, and CICHOWIEJ_SEED plays the one study of a seed that a failure
 //! has named.

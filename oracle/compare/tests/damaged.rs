@@ -6,8 +6,10 @@
 
 use compare::damage::{DAMAGES, Damage, Sound};
 use compare::difference::{first_difference, untouched};
+use compare::engine::block::{MATERIAL, Material, Pole};
 use compare::engine::{Study, block};
-use compare::judge::{BAD_STORE, lengths, refusal};
+use compare::judge::{BAD_MARK, BAD_RECORD, BAD_STORE, SHORT, lengths, refusal};
+use compare::poles::Poles;
 use compare::{Random, call, report, save, sound, variable};
 use std::collections::BTreeMap;
 use std::fs;
@@ -158,6 +160,8 @@ impl Tally {
         report(&format!("  of sound ones {:?}", self.kinds));
         assert!(met.into_keys().eq(ANSWERS));
         assert_eq!(self.answers.len(), DAMAGES.len());
+        let bad_pole = &self.answers[&Damage::BadPole];
+        assert!(bad_pole[&BAD_RECORD] > bad_pole.values().sum::<u64>() / 2);
         assert!(self.kinds.values().all(|n| *n > 0));
     }
 }
@@ -188,4 +192,64 @@ fn what_is_lent_comes_last() {
             }
         }
     }
+}
+
+/// A save with another material in the place of one, and then with something wrong behind ML too: CI has another mark, or
+/// the bytes end there.
+fn with_material(save: &Sound, id: usize, material: &Material) -> [Vec<u8>; 3] {
+    let (entry, end) = (save.entry(id), save.end_of_library());
+    let mut whole = save.bytes.clone();
+    whole[entry..entry + MATERIAL].copy_from_slice(&material.write());
+    let mut other_mark = whole.clone();
+    other_mark[end] ^= 1;
+    let cut = whole[..end].to_vec();
+    [whole, other_mark, cut]
+}
+
+/// A pole that cannot be stepped is found where ML is: once ML is whole, and before anything behind it, or what is lent,
+/// is looked at.
+fn bad_pole(save: &Sound, (id, place): (usize, usize), pole: Pole, noise: &Study) {
+    let sound = &save.record.materials[id];
+    let mut material = sound.clone();
+    material.poles[place] = pole;
+    for bytes in with_material(save, id, &material) {
+        let mut short = noise.clone();
+        short.ids.pop();
+        assert_eq!(rewound(&bytes, noise), BAD_RECORD);
+        assert_eq!(rewound(&bytes, &short), BAD_RECORD);
+        assert_eq!(rewound(&bytes[..save.end_of_library() - 1], noise), SHORT);
+    }
+    let answers = with_material(save, id, sound).map(|bytes| rewound(&bytes, noise));
+    assert_eq!(answers, [0, BAD_MARK, SHORT]);
+}
+
+/// Every counted place of a save in turn, with a pole that cannot be stepped, and with one next to a pole that can.
+#[test]
+fn poles_that_cannot_be_stepped() {
+    let mut random = Random::new(2029);
+    let (mut places, mut old) = (0, 0);
+    for _ in 0..60 {
+        let sizes = sound::small(&mut random);
+        let study = sound::by_hand(&mut random, sizes);
+        let save = Sound::any(&mut random, &study);
+        let noise = sound::noise(&mut random, sizes, save.record.pole_slots.into());
+        let poles = Poles::of(&save.record, sound::ODD);
+        for (id, material) in save.record.materials.iter().enumerate() {
+            for place in 0..material.poles.len() {
+                bad_pole(&save, (id, place), poles.bad(&mut random), &noise);
+                let [last, beyond] = poles.edge(&mut random);
+                bad_pole(&save, (id, place), beyond, &noise);
+                let mut material = material.clone();
+                material.poles[place] = last;
+                let answers = with_material(&save, id, &material).map(|b| rewound(&b, &noise));
+                assert_eq!(answers, [0, BAD_MARK, SHORT]);
+                places += 1;
+                old += u32::from(save::is_old(&save.bytes));
+            }
+        }
+    }
+    report(&format!(
+        "saves with a pole that cannot be stepped: {places} places, {old} of them in saves with a GH of 73 bytes, each refused at ML"
+    ));
+    assert!(old > 0 && old < places);
 }

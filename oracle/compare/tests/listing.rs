@@ -100,20 +100,24 @@ study 1 1 1 steps 0 materials 1
     lists(&[], "refused 13\n");
 }
 
-/// Two cells, a material with a pole, and every kind of number in the fields.
-#[test]
-fn two_cells() {
-    let mut study = fresh([1, 2, 1], 1);
-    let material = Material {
+fn material(pole: Pole) -> Material {
+    Material {
         eps_inf: 3.0,
         sigma: f64::NAN,
         mu_r: 1.0,
         pole_count: 1,
-        poles: vec![Pole {
-            tag: 2,
-            numbers: [1e11, 1e10, 0.0],
-        }],
-    };
+        poles: vec![pole],
+    }
+}
+
+/// Two cells, a material with a pole, and every kind of number in the fields.
+#[test]
+fn two_cells() {
+    let mut study = fresh([1, 2, 1], 1);
+    let material = material(Pole {
+        tag: 2,
+        numbers: [1e11, 1e10, 0.0],
+    });
     assert_eq!(study.add_material(&material.write(), &mut [0]), 0);
     assert_eq!(study.build_dispersion(), 0);
     assert_eq!(study.run(&[0.0; 12]), 0);
@@ -131,6 +135,35 @@ study 1 2 1 steps 12 materials 2
     lists(&save::write(&study), text);
     study.put_constants(2);
     lists(&save::write(&study), "refused 15\n");
+}
+
+/// A save whose pole cannot be stepped is refused where ML stands: whole, with the old GH, with another mark behind ML,
+/// and cut off there.
+#[test]
+fn poles_that_cannot_be_stepped() {
+    let poles = [
+        (3, [2.0, 0.0]),
+        (2, [1e11, f64::INFINITY]),
+        (3, [2.0, f64::NAN]),
+    ];
+    for (tag, [x, y]) in poles {
+        let mut study = fresh([1, 2, 1], 1);
+        let pole = |numbers| Pole { tag, numbers };
+        assert_eq!(
+            study.add_material(&material(pole([1.0, 1.0, 0.0])).write(), &mut [0]),
+            0
+        );
+        assert!(!expected(&save::write(&study)).starts_with("refused"));
+        study.put_material(1, material(pole([x, y, 0.0])));
+        let bytes = save::write(&study);
+        let behind = Sound::new(&study).end_of_library();
+        let mut marked = bytes.clone();
+        marked[behind] = b'X';
+        for bytes in [&bytes[..], &save::old(&bytes), &marked, &bytes[..behind]] {
+            lists(bytes, "refused 15\n");
+        }
+        lists(&bytes[..behind - 1], "refused 13\n");
+    }
 }
 
 /// More than 64 cells or one slot come where 4 stands, after all that can be wrong with the bytes; more

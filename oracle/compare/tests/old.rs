@@ -5,8 +5,8 @@
 
 use compare::difference::{first_difference, untouched};
 use compare::engine::Study;
-use compare::engine::block::{CONSTANTS, Record};
-use compare::judge::{BAD_MARK, BAD_RECORD, SHORT, TRAILING};
+use compare::engine::block::{CONSTANTS, MATERIAL, NAN, Record};
+use compare::judge::{self, BAD_MARK, BAD_RECORD, SHORT, TRAILING};
 use compare::{Random, save, sound};
 use std::fs;
 use std::path::Path;
@@ -14,6 +14,9 @@ use std::path::Path;
 /// Where GH's payload ends in an old save, and where the six bytes before ML's do.
 const END: usize = 79;
 const NEXT: usize = 85;
+/// Where delta_eps of material 1's first pole stands, and where ML ends with two materials.
+const DELTA_EPS: usize = NEXT + MATERIAL + 26;
+const TWO_MATERIALS: usize = NEXT + 2 * MATERIAL;
 
 fn kept(name: &str) -> Vec<u8> {
     let folder = Path::new(env!("CARGO_MANIFEST_DIR")).join("old");
@@ -21,8 +24,13 @@ fn kept(name: &str) -> Vec<u8> {
     fs::read(&file).unwrap_or_else(|e| panic!("{}: {e}", file.display()))
 }
 
+/// The kept ones that are taken up. The third is so with a number in the place of the NaN in its pole: document 02's S-2.
 fn all_kept() -> [Vec<u8>; 3] {
-    ["small", "poles", "nan"].map(kept)
+    let mut mended = kept("nan");
+    let number = &mut mended[DELTA_EPS..DELTA_EPS + 8];
+    assert_eq!(number, NAN.to_le_bytes());
+    number.copy_from_slice(&1.5_f64.to_le_bytes());
+    [kept("small"), kept("poles"), mended]
 }
 
 /// A save with another length of GH.
@@ -43,6 +51,20 @@ fn noise(random: &mut Random, old: &[u8]) -> (Study, Record) {
     let record = save::read(old).unwrap().record().unwrap();
     let noise = sound::noise(random, record.sizes, record.pole_slots.into());
     (noise, record)
+}
+
+/// A study that is without a fault by either constants; its own are 0.
+fn by_either(random: &mut Random, sizes: [usize; 3]) -> Study {
+    loop {
+        let mut study = sound::study(random, sizes);
+        let faults = [1, 0].map(|constants| {
+            study.put_constants(constants);
+            judge::fault(&study.record().unwrap())
+        });
+        if faults == [0; 2] {
+            return study;
+        }
+    }
 }
 
 /// The old save taken up, and saved again: its bytes with the length field 4A 00 00 00 and a 00 at 79.
@@ -119,14 +141,39 @@ fn kept_saves_are_taken_up() {
     }
 }
 
-/// The same of old saves of any study.
+/// As it was written, the third has a Debye pole whose a3 is NaN: it is refused once ML is whole, whatever comes behind.
+#[test]
+fn a_kept_save_whose_pole_cannot_be_stepped() {
+    let mut random = Random::new(2026);
+    let [.., mended] = all_kept();
+    let (noise, record) = noise(&mut random, &mended);
+    assert_eq!(
+        (record.material_count, record.materials[1].poles[0].tag),
+        (2, 3)
+    );
+    let old = kept("nan");
+    for end in 0..TWO_MATERIALS {
+        refused(&old[..end], &noise, SHORT);
+    }
+    for end in TWO_MATERIALS..=old.len() {
+        refused(&old[..end], &noise, BAD_RECORD);
+    }
+    refused(&[&old[..], &[0]].concat(), &noise, BAD_RECORD);
+    let [with, without] = [old, mended].map(|mut bytes| {
+        bytes[TWO_MATERIALS] ^= 1;
+        bytes
+    });
+    refused(&with, &noise, BAD_RECORD);
+    refused(&without, &noise, BAD_MARK);
+}
+
+/// Old saves of any study are taken up.
 #[test]
 fn any_old_save_is_taken_up() {
     let mut random = Random::new(2018);
     for turn in 0..200 {
         let sizes = sound::small(&mut random);
-        let mut study = sound::study(&mut random, sizes);
-        study.put_constants(0);
+        let study = by_either(&mut random, sizes);
         let old = save::old(&save::write(&study));
         taken_up(&mut random, &old);
         other_lengths(&mut random, &old);
@@ -154,7 +201,7 @@ fn a_new_save_with_the_old_length() {
 #[test]
 fn every_value_of_the_constants() {
     let mut random = Random::new(1948);
-    let study = sound::by_hand(&mut random, [1, 2, 1]);
+    let study = by_either(&mut random, [1, 2, 1]);
     let mut bytes = save::write(&study);
     for value in 0..=255 {
         bytes[END] = value;

@@ -7,7 +7,7 @@ use crate::engine::Put;
 use crate::engine::block::{Material, Pole};
 use crate::fill::{Fill, STORES, Store, tables};
 use crate::studies::{Kind, Layer, Wall, Wave};
-use crate::theirs::{Theirs, built_tables};
+use crate::theirs::{Theirs, ade_coeffs, built_tables};
 use crate::{Mix, Random};
 
 impl Kind {
@@ -88,8 +88,19 @@ impl Kind {
         }
     }
 
-    /// Rates below one over dt, so that the polarizations move and do not explode.
+    /// One that can be stepped: the original's three numbers are finite.
     fn pole(&self, random: &mut Random, tag: u8) -> Pole {
+        loop {
+            let pole = self.any_pole(random, tag);
+            let coefficients = ade_coeffs(self.constants, &pole, self.spacings[3]);
+            if coefficients.iter().all(|a| a.is_finite()) {
+                return pole;
+            }
+        }
+    }
+
+    /// Rates below one over dt, so that the polarizations move and do not explode.
+    fn any_pole(&self, random: &mut Random, tag: u8) -> Pole {
         let dt = self.spacings[3];
         let rate = random.above_zero(0.3, self.mix) / dt;
         let gamma = random.above_zero(0.3, self.mix) / dt;

@@ -11,7 +11,7 @@ use Rattle.root.specs.Rounded.{_⊕_, _⊖_}
 use Rattle.dispersion.specs.declared.AdeCoeffs.{AdeCoeffs}
 use Rattle.dispersion.specs.declared.DispersiveMaterial.{DispersiveMaterial}
 use Rattle.dispersion.specs.Ade.{adeCoeffs}
-use Rattle.dispersion.specs.Material.{blankSlot}
+use Rattle.dispersion.specs.Material.{poleIn}
 use Rattle.grid.specs.declared.Record.{Record}
 use Rattle.grid.specs.Fault.{poleCount, polesFit}
 use Rattle.grid.specs.Inner.Sound.{Sound}
@@ -43,7 +43,7 @@ pub record CoeffPut (k : AdeCoeffs) (b : ℕ) (old new : List Float) : Type 0 wh
 -- the first z slots of material i, and of the materials below it what was there
 pub record Listed (eps0 dt : Float) (material : DispersiveMaterial) (i z : ℕ) (old new : List Float) : Type 0 where
   pub same : length new ≡ length old
-  pub here : (slot : ℕ) → slot < z → coeffAt new (4 * i + slot) ≡ adeCoeffs eps0 dt (getD (material .poles) slot blankSlot .pole)
+  pub here : (slot : ℕ) → slot < z → coeffAt new (4 * i + slot) ≡ adeCoeffs eps0 dt (poleIn material slot)
   pub below : (b : ℕ) → b < 4 * i → coeffAt new b ≡ coeffAt old b
 
 -- the counted slots of the first z materials

@@ -16,16 +16,16 @@ unfolding addCall
 returns c = turned-down _ _ _ _ _ _ (c .before .add-fault .ensures) (c .if1 .taken)
 
 mul-kept : tie.Need-mul-kept
-mul-kept c = omega (arith, add-none _ _ (sym (c .before .before .add-fault .ensures) ∙ c .before .if1 .left))
+mul-kept c = omega (arith, add-none _ _ (sym (c .before .before .add-fault .ensures) ∙ c .before .if1 .left) .free)
 
 element-set-from-kept : tie.Need-element-set-from-kept
-element-set-from-kept c = add-none _ _ (sym (c .before .before .add-fault .ensures) ∙ c .before .if1 .left)
+element-set-from-kept c = add-none _ _ (sym (c .before .before .add-fault .ensures) ∙ c .before .if1 .left) .free
 
 add-q : tie.Need-add-q
-add-q c = omega (arith, add-none _ _ (sym (c .before .before .add-fault .ensures) ∙ c .before .if1 .left))
+add-q c = omega (arith, add-none _ _ (sym (c .before .before .add-fault .ensures) ∙ c .before .if1 .left) .free)
 
 cast-t12 : tie.Need-cast-t12
-cast-t12 c = omega (arith, add-none _ _ (sym (c .before .before .add-fault .ensures) ∙ c .before .if1 .left))
+cast-t12 c = omega (arith, add-none _ _ (sym (c .before .before .add-fault .ensures) ∙ c .before .if1 .left) .free)
 
 returns-2 : tie.Need-returns-2
 unfolding addCall added

@@ -92,6 +92,7 @@ pub struct CompareArguments {
 
 #[derive(clap::Args)]
 #[command(after_help = "Example: cichowiej verify --folder trials\n\n\
+    A save of an older library with a pole that cannot be stepped is named too: it is whole, and no damage.\n\n\
     Exit status: 0; 1 where something is damaged; 2 for misuse; 130 after Ctrl-C")]
 pub struct VerifyArguments {
     #[command(flatten)]
@@ -175,7 +176,8 @@ fn resume(arguments: &ResumeArguments) -> Result<(), Failure> {
         return Err(format!("{}:{line}: {told}", input.name).into());
     }
     let mut out = |text: &str| print(text).map_err(Failure::from);
-    let study = script.run(Some(standing.kept(&parent)?.study), arguments.hex, &mut out, &interrupt)?;
+    let kept = standing.kept(&parent).map_err(String::from)?;
+    let study = script.run(Some(kept.study), arguments.hex, &mut out, &interrupt)?;
     let study = study.ok_or_else(|| format!("{}: there is no study at its end, and nothing is kept", input.name))?;
     let label = arguments.label.clone().unwrap_or_else(|| file_name(&arguments.script));
     put(&standing, &Save::from_study(study)?, Words { label: Some(label), grew_from: Some(parent) }, &interrupt)

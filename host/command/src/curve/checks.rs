@@ -32,6 +32,12 @@ fn at_least(key: &str, number: f64, least: f64) -> Result<(), Trouble> {
     if good { Ok(()) } else { Err(Trouble::at(key, format!("{number} has to be {least} or more"))) }
 }
 
+/// A number that is one, and not 0 or next to it.
+fn above_zero(key: &str, number: f64) -> Result<(), Trouble> {
+    let good = number.is_normal() && number > 0.0;
+    if good { Ok(()) } else { Err(Trouble::at(key, format!("{number:?} has to be a finite number, clearly above 0"))) }
+}
+
 /// With other numbers a layer gives energy or has tables that are no numbers; with a sigma_scale of 0 it is weak, and warned of.
 fn edge(edge: &Edge) -> Result<(), Trouble> {
     match edge {
@@ -142,7 +148,7 @@ fn passive(part: &MaterialPart, key: &str) -> Result<(), Trouble> {
     let number = |name: &str, number: f64, least: f64| at_least(&format!("{key}.{name}"), number, least);
     number("eps_inf", part.eps_inf, 1.0)?;
     number("sigma", part.sigma.0, 0.0)?;
-    number("mu_r", part.mu_r, f64::MIN_POSITIVE)?;
+    above_zero(&format!("{key}.mu_r"), part.mu_r)?;
     for (index, pole) in part.poles.iter().enumerate() {
         let place = |name: &str| format!("poles[{index}].{name}");
         match pole {
@@ -153,7 +159,10 @@ fn passive(part: &MaterialPart, key: &str) -> Result<(), Trouble> {
             PolePart::Drude(pole) => number(&place("drude.gamma"), pole.gamma.0, 0.0)?,
             PolePart::Debye(pole) => {
                 number(&place("debye.delta_eps"), pole.delta_eps, 0.0)?;
-                number(&place("debye.tau"), pole.tau.0, f64::MIN_POSITIVE)?;
+                // a tau of 0 is the engine's to refuse, as any pole that cannot be stepped
+                if pole.tau.0 != 0.0 {
+                    above_zero(&format!("{key}.{}", place("debye.tau")), pole.tau.0)?;
+                }
             }
         }
     }

@@ -78,7 +78,7 @@ impl Plan<'_> {
             self.place_boxes(&mut study)?;
         }
         if let Some(sheet) = &point.sheet {
-            let id = study.add_material(&sheet.material).map_err(|refusal| Trouble::refused(&point.key, refusal))?;
+            let id = study.add_material(&sheet.material).map_err(|refusal| self.sheet_refused(point, sheet, refusal))?;
             study.put_box(self.sheet, Put::Library(id)).map_err(refused("sheet.cells"))?;
         }
         study.build_dispersion().map_err(refused("grid"))?;
@@ -96,8 +96,9 @@ impl Plan<'_> {
     fn place_boxes(&self, study: &mut Study) -> Result<(), Trouble> {
         let mut ids: BTreeMap<&str, MaterialId> = BTreeMap::new();
         for (name, part) in &self.head.materials {
-            let added = study.add_material(&part.material());
-            ids.insert(name, added.map_err(|refusal| Trouble::refused(format!("materials.{name}"), refusal))?);
+            let material = part.material();
+            let added = study.add_material(&material);
+            ids.insert(name, added.map_err(|refusal| self.material_refused(name, &material, refusal))?);
         }
         for (index, part) in self.head.boxes.iter().enumerate() {
             let key = format!("boxes[{index}]");

@@ -1,6 +1,7 @@
 //! The wet sheet as a mixture of fibre, water and air, each part by its share of the volume.
 
-use cichowiej::{Material, Pole};
+use crate::pole::BadPole;
+use cichowiej::{Grid, Material, Pole};
 use thiserror::Error;
 
 /// What a mill knows of a sheet. Everything in SI.
@@ -53,17 +54,35 @@ impl Paper {
     /// The linear mixture: ε of the sheet is the sum of the parts' ε, each times its share.
     pub fn mixed(&self, moisture: f64) -> Result<Material, Misfit> {
         let shares = self.shares(moisture)?;
-        let parts = [(shares.fibre, &self.fibre), (shares.water, &self.water)];
-        let sum = |of: fn(&Material) -> f64| parts.iter().map(|(share, part)| share * of(part)).sum::<f64>();
-        let poles = parts.iter().flat_map(|(share, part)| part.poles.iter().map(|pole| scaled(*pole, *share)));
+        let parts = self.parts(shares);
+        let sum = |of: fn(&Material) -> f64| parts.iter().map(|(_, share, part)| share * of(part)).sum::<f64>();
         Ok(Material {
             eps_inf: shares.air + sum(|part| part.eps_inf),
             sigma: sum(|part| part.sigma),
             mu_r: 1.0,
-            // a share of 0 has no pole to step
-            poles: poles.filter(|pole| strength(*pole) != 0.0).collect(),
+            poles: parts.iter().flat_map(|(_, share, part)| poles(part, *share)).map(|(_, pole)| pole).collect(),
         })
     }
+
+    /// The parts with poles, by their names, each with its share.
+    fn parts(&self, shares: Shares) -> [(&'static str, f64, &Material); 2] {
+        [("fibre", shares.fibre, &self.fibre), ("water", shares.water, &self.water)]
+    }
+
+    /// The part whose pole cannot be stepped at its share, with the pole as it is by itself.
+    pub fn bad_pole(&self, shares: Shares, grid: &Grid) -> Option<(&'static str, BadPole)> {
+        let is_bad = |pole: &Pole| pole.ade_coeffs(grid.dt, grid.constants).is_err();
+        self.parts(shares).into_iter().find_map(|(name, share, part)| {
+            let (number, _) = poles(part, share).find(|(_, pole)| is_bad(pole))?;
+            Some((name, BadPole { number, pole: *part.poles.get(number)?, dt: grid.dt }))
+        })
+    }
+}
+
+/// The poles that a part has in the mixture, with their numbers in the part. A share of 0 has none to step.
+fn poles(part: &Material, share: f64) -> impl Iterator<Item = (usize, Pole)> {
+    let all = part.poles.iter().map(move |pole| scaled(*pole, share)).enumerate();
+    all.filter(|(_, pole)| strength(*pole) != 0.0)
 }
 
 /// A pole of a part that has a share of the volume.
@@ -85,6 +104,7 @@ fn strength(pole: Pole) -> f64 {
 #[cfg(test)]
 mod tests {
     use super::*;
+    use cichowiej::Constants;
 
     fn paper() -> Paper {
         Paper {
@@ -112,6 +132,26 @@ mod tests {
         assert!((wet.eps_inf - (0.3 + 2.0 + 1.0)).abs() < 1e-12);
         let Pole::Debye { delta_eps, tau } = wet.poles[0] else { panic!() };
         assert!((delta_eps - 15.0).abs() < 1e-12 && tau == 8e-12);
+    }
+
+    /// A strength that is too large by itself, and not in half of the volume; and a share of 0.
+    #[test]
+    fn a_pole_is_judged_at_its_share() {
+        let grid = Grid { cells: [1; 3], pitch: [1e-3; 3], dt: 1.0, pole_slots: 4, constants: Constants::Old };
+        let strong = Pole::Debye { delta_eps: 1.7e308, tau: 0.9 * grid.constants.eps0() };
+        let instant = Pole::Debye { delta_eps: 2.0, tau: 0.0 };
+        assert!(strong.ade_coeffs(grid.dt, grid.constants).is_err());
+        let bad = |fibre: Pole, water: Pole, moisture: f64| {
+            let with = |pole: Pole| Material::plain(4.0).with_pole(pole);
+            let paper = Paper { fibre: with(fibre), water: with(water), ..paper() };
+            let found = paper.bad_pole(paper.shares(moisture).unwrap(), &grid).map(|(name, bad)| (name, bad.pole));
+            let mixed = paper.mixed(moisture).unwrap();
+            assert_eq!(found.is_some(), !mixed.bad_poles(grid.dt, grid.constants).is_empty());
+            found
+        };
+        assert_eq!(bad(strong, instant, 20.0), Some(("water", instant)));
+        assert_eq!(bad(instant, strong, 20.0), Some(("fibre", instant)));
+        assert_eq!((bad(strong, instant, 0.0), bad(strong, strong, 20.0)), (None, None));
     }
 
     #[test]

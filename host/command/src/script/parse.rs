@@ -42,7 +42,10 @@ impl Parser {
             (_, Some(_)) | ("pitch", None) => return Err("size stands before pitch, and pitch behind size".into()),
             ("size", None) => self.sized = Some((line, size(&mut words)?)),
             ("pole", None) => match self.statements.last_mut() {
-                Some((_, Statement::Material { material, .. })) => material.poles.push(pole(&mut words)?),
+                Some((_, Statement::Material { material, pole_lines, .. })) => {
+                    material.poles.push(pole(&mut words)?);
+                    pole_lines.push(line);
+                }
                 _ => return Err("a pole stands behind its material".into()),
             },
             (kind, None) => {

@@ -17,6 +17,8 @@ pub enum Statement {
     Material {
         name: String,
         material: Material,
+        /// The lines of its poles.
+        pole_lines: Vec<usize>,
     },
     Box {
         material: String,
@@ -134,7 +136,7 @@ fn material(words: &mut Words) -> Result<Statement, String> {
     let sigma = words.pair("sigma").map_or(Ok(0.0), |word| Conductivity::read(&word))?;
     let material =
         Material { eps_inf: words.number_of("eps_inf")?, sigma, mu_r: words.number_or("mu_r", 1.0)?, poles: Vec::new() };
-    Ok(Statement::Material { name, material })
+    Ok(Statement::Material { name, material, pole_lines: Vec::new() })
 }
 
 /// Of `pole`.

@@ -4,7 +4,7 @@ use crate::standing::Standing;
 use crate::standing::list::{counted, product};
 use crate::standing::records::{MARKS, Shape, byte, constants, count, double, payload, short, skip, whole};
 use crate::standing::stream::Stream;
-use cichowiej::MATERIAL_LENGTH;
+use cichowiej::{MATERIAL_LENGTH, pole_place};
 use std::io::{self, Read, Take};
 
 /// For two saves that differ in no number.
@@ -158,7 +158,7 @@ fn material(a: &[u8], b: &[u8]) -> String {
 
 /// As Debye(2.0, 9e-12), its numbers in the order of `Pole`.
 fn pole(material: &[u8], place: usize) -> Option<String> {
-    let at = 25 + 25 * place;
+    let at = pole_place(place);
     let (name, length) = match byte(material, at)? {
         1 => ("Lorentz", 3),
         2 => ("Drude", 2),

@@ -1,5 +1,6 @@
 //! All that is kept, as a tree.
 
+use crate::standing::fault::has_bad_pole;
 use crate::standing::records::Shape;
 use crate::standing::tree::{Line, draw};
 use crate::standing::{Noted, Standing, is_digest, short};
@@ -23,8 +24,9 @@ fn line(standing: &Standing, id: &str) -> Line {
         Noted::Nothing => "(no note)".into(),
         Noted::Damaged(message) => format!("(note damaged: {})", plain(message)),
     };
-    let gone = if standing.save_path(id).exists() { "" } else { "(its save is not here)" };
-    let parts = [short(id), kept.as_deref().unwrap_or("at an unknown time"), &sizes, &label, gone];
+    let doubt = if standing.save_path(id).exists() { unsteppable(standing, id) } else { Some("its save is not here".into()) };
+    let doubt = doubt.map_or(String::new(), |doubt| format!("({doubt})"));
+    let parts = [short(id), kept.as_deref().unwrap_or("at an unknown time"), &sizes, &label, &doubt];
     let text = parts.into_iter().filter(|part| !part.is_empty()).collect::<Vec<_>>().join("  ");
     Line { id: id.into(), kept, grew_from: note.and_then(|note| note.grew_from.clone()), text }
 }
@@ -33,6 +35,13 @@ fn line(standing: &Standing, id: &str) -> Line {
 fn sizes(standing: &Standing, id: &str) -> Option<([usize; 3], usize)> {
     let shape = Shape::of_save(open_file(&standing.save_path(id)).ok()?)?;
     Some((shape.cells, shape.steps))
+}
+
+/// Of a whole save that the engine refuses for its poles. All of it is judged only where its beginning shows such a pole: else a list would take as long as `verify`.
+fn unsteppable(standing: &Standing, id: &str) -> Option<String> {
+    let save = open_file(&standing.save_path(id)).ok()?;
+    let fault = if has_bad_pole(save) { standing.kept(id).err() } else { None };
+    Some(fault?.older?.brief)
 }
 
 /// As 1x1x90.

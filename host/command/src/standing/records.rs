@@ -6,6 +6,9 @@ use std::io::{self, Read, Take};
 /// In their order.
 pub const MARKS: [&str; 11] = ["GH", "ML", "CI", "CM", "FE", "FH", "LE", "LH", "LT", "PP", "AX"];
 
+/// A record's mark and the length of its payload, which stand before that.
+pub const FRAME_LENGTH: usize = 6;
+
 /// The first record's payload ends in the constants. A save of an older library has no byte for them, and the old ones.
 const GRID_LENGTH: usize = 74;
 const OLD_GRID_LENGTH: usize = 73;
@@ -15,7 +18,7 @@ const LONGEST_WHOLE: u64 = 16 * MATERIAL_LENGTH as u64;
 
 /// The payload of the next record of a save, which has to have this mark. It has to be read to its end before the next.
 pub fn payload<'a, R: Read>(save: &'a mut R, mark: &str) -> io::Result<Take<&'a mut R>> {
-    let mut frame = [0; 6];
+    let mut frame = [0; FRAME_LENGTH];
     save.read_exact(&mut frame)?;
     let [first, second, length @ ..] = frame;
     if mark.as_bytes() != [first, second] {

@@ -15,10 +15,15 @@ pub fn verify(standing: &Standing) -> Result<Report, String> {
     // another program may have added a save since the names were read
     let is_here = |id: &&String| names.saves.contains(*id) || standing.save_path(id).exists();
     let (saves, alone): (Vec<&String>, Vec<&String>) = names.saves.union(&names.notes).partition(is_here);
-    let found: Vec<Vec<String>> = saves.iter().map(|id| faults(standing, id)).collect();
-    let damaged = found.iter().filter(|faults| !faults.is_empty()).count() + alone.len();
+    let found: Vec<Found> = saves.iter().map(|id| found(standing, id)).collect();
+    let damaged = found.iter().filter(|found| found.damaged).count() + alone.len();
+    let poles = match found.iter().filter(|found| found.unsteppable).count() {
+        0 => String::new(),
+        some => format!("{some} whole with a pole that cannot be stepped, "),
+    };
     let without = names.saves.difference(&names.notes).filter(|id| is_digest(id)).count();
-    let mut lines: Vec<String> = found.into_iter().flatten().chain(alone.iter().map(|id| lost(standing, id))).collect();
+    let of_saves = found.into_iter().flat_map(|found| found.lines);
+    let mut lines: Vec<String> = of_saves.chain(alone.iter().map(|id| lost(standing, id))).collect();
     if without > 0 {
         lines.push(format!("{} without a note, to be had by keeping it again", counted(without, "save")));
     }
@@ -30,7 +35,7 @@ pub fn verify(standing: &Standing) -> Result<Report, String> {
         1 => "1 note without its save, ".into(),
         several => format!("{several} notes without their saves, "),
     };
-    lines.push(format!("{}, {notes}{damaged} damaged", counted(saves.len(), "save")));
+    lines.push(format!("{}, {notes}{poles}{damaged} damaged", counted(saves.len(), "save")));
     Ok(Report { text: lines.iter().map(|line| format!("{}\n", plain(line))).collect(), damaged })
 }
 
@@ -39,14 +44,22 @@ fn lost(standing: &Standing, id: &str) -> String {
     format!("{}: its save is not here", standing.note_path(id).display())
 }
 
-/// What is wrong with a save and its note, a line for each.
-fn faults(standing: &Standing, id: &str) -> Vec<String> {
+/// What there is to say of a save and its note, a line for each.
+struct Found {
+    lines: Vec<String>,
+    damaged: bool,
+    /// Whole, and refused for a pole.
+    unsteppable: bool,
+}
+
+fn found(standing: &Standing, id: &str) -> Found {
     if !is_digest(id) {
-        return vec![format!("{}: its name is no SHA-256", standing.save_path(id).display())];
+        let line = format!("{}: its name is no SHA-256", standing.save_path(id).display());
+        return Found { lines: vec![line], damaged: true, unsteppable: false };
     }
     let (numbers, fault) = match standing.kept(id) {
         Ok(kept) => (Some(kept.numbers()), None),
-        Err(message) => (None, Some(message)),
+        Err(fault) => (fault.older.as_ref().map(|older| older.numbers), Some(fault)),
     };
     let of_note = match standing.note(id) {
         Noted::Nothing => None,
@@ -56,5 +69,7 @@ fn faults(standing: &Standing, id: &str) -> Vec<String> {
             .and_then(|numbers| noted.disagreement(&numbers))
             .map(|message| format!("{}: {message}", standing.note_path(id).display())),
     };
-    fault.into_iter().chain(of_note).collect()
+    let unsteppable = fault.as_ref().is_some_and(|fault| fault.older.is_some());
+    let damaged = of_note.is_some() || fault.is_some() && !unsteppable;
+    Found { lines: fault.map(String::from).into_iter().chain(of_note).collect(), damaged, unsteppable }
 }

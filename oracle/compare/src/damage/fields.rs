@@ -76,7 +76,7 @@ pub fn head_field(random: &mut Random, record: &Record) -> Field {
 }
 
 /// Other values for fields of ML, and their places. A pole more than there may be is a sound one
-/// half of the time: then the count alone is at fault.
+/// half of the time: then the count alone is at fault. It is of zeros, with which a Debye pole cannot be stepped.
 pub fn library_fields(random: &mut Random, record: &Record) -> Vec<Field> {
     let m = random.index(record.materials.len());
     let place = random.index(PLACES);
@@ -88,7 +88,7 @@ pub fn library_fields(random: &mut Random, record: &Record) -> Vec<Field> {
         0 => vec![(entry + 24, vec![counts[random.index(counts.len())] as u8])],
         1 => {
             let count = record.materials[m].poles.len();
-            let tag = vec![1 + random.below(3) as u8];
+            let tag = vec![1 + random.below(2) as u8];
             let more = vec![(entry + 24, vec![count as u8 + 1])];
             let at = entry + 25 + 25 * count;
             more.into_iter()

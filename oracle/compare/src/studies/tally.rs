@@ -2,6 +2,7 @@
 
 use std::collections::BTreeMap;
 
+use super::poles::PoleTally;
 use crate::call::Call;
 use crate::choose::{LONG_ROW, LONG_SIDE, row_axis};
 use crate::engine::Study;
@@ -17,21 +18,24 @@ pub struct Tally {
     steps: BTreeMap<&'static str, u64>,
     /// Calls on a block that has another NaN than the one.
     on_another_nan: BTreeMap<String, u64>,
+    poles: PoleTally,
 }
 
 impl Tally {
-    /// Counts a call of the engine that gets a block with another NaN than the one.
+    /// Counts a call by the block that it gets: the engine's on one with another NaN than the one, and by its poles.
     pub fn count_block(&mut self, call: &Call, study: &Study) {
-        let written = study.record().map(|record| record.write());
-        if !call.is_by_hand() && written.is_some_and(|block| block != study.block) {
+        let record = study.record().unwrap();
+        if !call.is_by_hand() && record.write() != study.block {
             *self.on_another_nan.entry(call.name()).or_default() += 1;
         }
+        self.poles.count_record(call, &record);
     }
 
     /// Counts a call by its name and refusal, and an accepted step by what it ran through.
     pub fn count(&mut self, call: &Call, refusal: u32, study: &Study) {
         *self.calls.entry(call.name()).or_default() += 1;
         *self.refusals.entry(refusal).or_default() += 1;
+        self.poles.count(call, refusal, study);
         if refusal != 0 || !matches!(call, Call::Step(_) | Call::Run(_)) {
             return;
         }
@@ -94,6 +98,7 @@ impl Tally {
         add(&mut self.refusals, other.refusals);
         add(&mut self.steps, other.steps);
         add(&mut self.on_another_nan, other.on_another_nan);
+        self.poles.join(other.poles);
     }
 
     pub fn report(&self) {
@@ -109,6 +114,7 @@ impl Tally {
             "  on a block with another NaN {:?}",
             self.on_another_nan
         ));
+        self.poles.report();
     }
 
     /// Every kind of call, every refusal that a study can bring on and every kind of step was there, and every
@@ -117,13 +123,14 @@ impl Tally {
         let of_the_engine = 21;
         !self.studies.contains(&0)
             && self.calls.len() == of_the_engine + 8
-            && self.refusals.len() == 11
+            && self.refusals.len() == 12
             && self.steps.len() == 23
             && self.on_another_nan.len() == of_the_engine
+            && self.poles.is_varied(of_the_engine)
     }
 }
 
-fn add<K: Ord>(counts: &mut BTreeMap<K, u64>, more: BTreeMap<K, u64>) {
+pub(super) fn add<K: Ord>(counts: &mut BTreeMap<K, u64>, more: BTreeMap<K, u64>) {
     for (key, n) in more {
         *counts.entry(key).or_default() += n;
     }

@@ -71,7 +71,7 @@ impl Side {
     }
 
     /// As many materials built as the block says, whether one of them has a pole or not. Every slot of the
-    /// pole store gets its arrays.
+    /// pole store gets its arrays. With a pole that cannot be stepped no step is accepted, and no coefficient used.
     fn put_dispersion(&mut self) {
         let grid = &mut self.grid;
         let slots = usize::from(self.pole_slots);

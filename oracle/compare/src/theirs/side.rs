@@ -64,7 +64,7 @@ impl Side {
         side
     }
 
-    /// The call on the original, where document 01 accepts it, and the answer that is expected.
+    /// The call on the original, where the papers accept it, and the answer that is expected.
     pub fn apply(&mut self, call: &Call) -> Answer {
         let refusal = judge::refusal(&self.expected, call);
         let further = match refusal {

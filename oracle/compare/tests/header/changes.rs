@@ -15,7 +15,7 @@ use std::process::{Command, Stdio};
 use std::thread;
 
 /// What holds no number of the header's own is left out.
-const THEMES: [&str; 18] = [
+const THEMES: [&str; 19] = [
     "bytes",
     "constants",
     "record",
@@ -23,6 +23,7 @@ const THEMES: [&str; 18] = [
     "refusals",
     "materials",
     "poles",
+    "bad_poles",
     "parts",
     "tables",
     "regions",

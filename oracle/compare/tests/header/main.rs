@@ -125,6 +125,6 @@ macro_rules! themes {
 }
 
 themes! {
-    limits refusals precedence record materials poles lengths parts tables walls regions effects steps saves pointers
+    limits refusals precedence record materials poles bad_poles lengths parts tables walls regions effects steps saves pointers
     wrappers bytes nans overlap constants
 }

@@ -1,12 +1,14 @@
 //! A random list of calls, made turn by turn.
 
 use crate::run::{Run, Saved};
-use crate::tally::Tally;
+use crate::tally::{FOREIGN_POLE, Tally};
 use compare::call::{Bytes, Call};
 use compare::choose::Chooser;
 use compare::damage::{DAMAGES, Sound};
 use compare::engine::block::{LENGTH, Material, Pole, Record};
 use compare::engine::{Put, Study};
+use compare::judge::poles::first_bad;
+use compare::poles::ruined;
 use compare::{Random, judge, save, sound};
 
 pub struct List {
@@ -170,6 +172,8 @@ impl List {
         let mut lent = self.run.study().clone();
         spoil(&mut self.random, &mut lent);
         let refused = judge::refusal(&lent, &call) != 0;
+        let bad_pole = lent.record().is_some_and(|r| first_bad(&r).is_some());
+        self.tally.meet(FOREIGN_POLE, (refused && bad_pole).into());
         self.make(call, refused.then_some(lent));
     }
 
@@ -193,7 +197,7 @@ impl List {
 }
 
 /// Calls that are refused for an argument alone, whatever stands.
-fn wrong(record: &Record) -> [Call; 10] {
+fn wrong(record: &Record) -> [Call; 11] {
     let (sizes, spacings) = (record.sizes, record.spacings);
     let pole_slots = usize::from(record.pole_slots);
     let open = |sizes, pole_slots, constants, spacings| Call::Open {
@@ -202,23 +206,26 @@ fn wrong(record: &Record) -> [Call; 10] {
         constants,
         spacings,
     };
-    let pole = Pole {
-        tag: 3,
-        numbers: [1.0, 1.0, 0.0],
-    };
-    let material = Material {
-        eps_inf: 1.0,
-        sigma: 0.0,
-        mu_r: 1.0,
-        pole_count: record.pole_slots + 1,
-        poles: vec![pole; pole_slots + 1],
+    let with_poles = |count, tau| {
+        let pole = Pole {
+            tag: 3,
+            numbers: [1.0, tau, 0.0],
+        };
+        Call::AddMaterial(Material {
+            eps_inf: 1.0,
+            sigma: 0.0,
+            mu_r: 1.0,
+            pole_count: count as u8,
+            poles: vec![pole; count],
+        })
     };
     [
         open([sizes[0], 0, 513], pole_slots, 0, spacings),
         open(sizes, pole_slots, 1, [1.0, 1.0, 1.0, f64::NAN]),
         open(sizes, 5, 0, spacings),
         open(sizes, pole_slots, 2, spacings),
-        Call::AddMaterial(material),
+        with_poles(pole_slots + 1, 1.0),
+        with_poles(pole_slots.max(1), 0.0),
         Call::PutBox {
             what: Put::Library(record.material_count.into()),
             cells: [0; 6],
@@ -245,12 +252,17 @@ fn few(random: &mut Random) -> [usize; 3] {
 /// A block or a store as no call of the run has left it.
 fn spoil(random: &mut Random, study: &mut Study) {
     let mut record = study.record().unwrap();
-    match random.below(9) {
+    match random.below(10) {
         0 => study.block.fill_with(|| random.bits() as u8),
         1 => study.block.truncate(random.index(LENGTH)),
         2 => study.block[random.index(LENGTH)] ^= 1 << random.below(8),
         3 => study.put_steps(u32::MAX),
         8 => study.put_constants(2 + random.index(254) as u8),
+        9 => {
+            if let Some((id, material)) = ruined(random, &record, sound::ODD) {
+                study.put_material(id, material);
+            }
+        }
         4 => spoil_a_store(random, study),
         5 => {
             record.material_count = 16;

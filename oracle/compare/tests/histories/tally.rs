@@ -2,6 +2,7 @@
 
 use compare::call::Call;
 use compare::engine::Study;
+use compare::judge::BAD_POLE;
 use compare::report;
 use compare::save::is_old;
 use std::collections::BTreeMap;
@@ -27,7 +28,8 @@ const OLDER: &str = "ends with the older constants";
 const NEW: &str = "ends with the constants of 2019";
 pub const OTHER: &str = "rewinds to other constants";
 const OLD_SAVES: &str = "further calls that took up an old save";
-const ALL: [&str; 12] = [
+pub const FOREIGN_POLE: &str = "calls on a record of nobody with a pole that cannot be stepped";
+const ALL: [&str; 13] = [
     EQUAL_SAVES,
     LATEST,
     ACROSS,
@@ -40,6 +42,7 @@ const ALL: [&str; 12] = [
     NEW,
     OTHER,
     OLD_SAVES,
+    FOREIGN_POLE,
 ];
 
 impl Tally {
@@ -87,7 +90,9 @@ impl Tally {
     pub fn is_varied(&self) -> bool {
         let met = |what| self.met.get(what).is_some_and(|n| *n > 0);
         self.calls.len() == 22
-            && (0..=17).all(|n| self.refusals.contains_key(&n))
+            && (0..=17)
+                .chain([BAD_POLE])
+                .all(|n| self.refusals.contains_key(&n))
             && ALL.iter().all(met)
     }
 }

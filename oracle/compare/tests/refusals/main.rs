@@ -1,5 +1,6 @@
 //! What each call turns down, by document 01, and that a refused call changes nothing.
 
+mod poles;
 mod standing;
 
 use compare::call::{Call, Numbers};
@@ -168,7 +169,7 @@ fn broken(record: &mut Record, random: &mut Random) {
     let pick = |random: &mut Random| small[random.index(small.len())];
     for _ in 0..1 + random.below(3) {
         let axis = random.index(3);
-        match random.below(13) {
+        match random.below(14) {
             0 => record.sizes[axis] = [0, 1, 512, 513, 65535][random.index(5)],
             1 => record.spacings[random.index(4)] = random.odd(),
             2 => record.pole_slots = pick(random),
@@ -181,6 +182,11 @@ fn broken(record: &mut Record, random: &mut Random) {
             9 => record.material_count = pick(random),
             10 => record.materials[random.index(4)] = material(&[3, 2, 1][..random.index(4)]),
             11 => record.constants = pick(random),
+            12 => {
+                let bad = poles::bad();
+                let pole = bad[random.index(bad.len())].clone();
+                record.materials[random.index(4)] = poles::of(&[pole]);
+            }
             _ => record.time = random.odd(),
         }
     }
@@ -191,7 +197,7 @@ fn records_that_contradict_themselves() {
     let (standing, calls) = (study(), calls());
     let record = standing.record().unwrap();
     let mut random = Random::new(1994);
-    let mut counts = [0; 18];
+    let mut counts = [0; 20];
     for _ in 0..20_000 {
         let mut study = standing.clone();
         let mut record = record.clone();
@@ -498,27 +504,30 @@ fn bytes_that_are_no_material() {
     }
 }
 
-/// Any NaN in a material's bytes is taken, and the one is written.
+/// Any NaN in a material's three numbers is taken, and the one is written; with one in its pole it is refused.
 #[test]
 fn a_material_with_another_nan() {
     let standing = study();
     let good = material(&[3]).write();
-    for at in [0, 8, 16, 26, 34] {
-        for bits in [0x7FF0_0000_0000_0001_u64, 0x7FF9_0000_0000_0000, u64::MAX] {
-            let [odd, one] = [bits, block::NAN].map(|bits| {
-                let mut bytes = good.clone();
-                bytes[at..at + 8].copy_from_slice(&bits.to_le_bytes());
-                let mut study = standing.clone();
-                assert_eq!(adding(&study, &bytes), 0);
-                assert_eq!(
-                    study.add_material(&bytes, &mut []),
-                    0,
-                    "{bits:016X} at {at}"
-                );
-                study
-            });
-            assert!(untouched(&one, &odd));
-        }
+    let nans = [0x7FF0_0000_0000_0001_u64, 0x7FF9_0000_0000_0000, u64::MAX];
+    let with = |at: usize, bits: u64| {
+        let mut bytes = good.clone();
+        bytes[at..at + 8].copy_from_slice(&bits.to_le_bytes());
+        bytes
+    };
+    for (at, bits) in [0, 8, 16].into_iter().flat_map(|at| nans.map(|n| (at, n))) {
+        let [odd, one] = [bits, block::NAN].map(|bits| {
+            let (bytes, mut study) = (with(at, bits), standing.clone());
+            assert_eq!(adding(&study, &bytes), 0);
+            let refusal = study.add_material(&bytes, &mut []);
+            assert_eq!(refusal, 0, "{bits:016X} at {at}");
+            study
+        });
+        assert!(untouched(&one, &odd));
+    }
+    for bits in nans.into_iter().chain([block::NAN]) {
+        added(&standing, &with(26, bits), BAD_POLE);
+        added(&standing, &with(34, bits), BAD_POLE);
     }
 }
 

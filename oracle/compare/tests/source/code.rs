@@ -48,6 +48,10 @@ impl Function {
         let fits = self.takes.iter().filter(|p| p.of == of);
         fits.map(|p| p.name.as_str()).collect()
     }
+
+    pub fn is_method(&self) -> bool {
+        self.takes.first().is_some_and(|p| p.name == "self")
+    }
 }
 
 pub struct File {
@@ -236,6 +240,7 @@ fn parts(words: &[Word], within: Range<usize>) -> Vec<Range<usize>> {
 }
 
 /// A call in a body: the path before its bracket, and where each argument stands.
+#[derive(Clone)]
 pub struct Call {
     pub path: Vec<String>,
     pub line: usize,

@@ -27,6 +27,7 @@ const FLOATS: &str = "crates/codec/src/floats.rt";
 const FRAME: &str = "crates/codec/src/frame.rt";
 const STORES: &str = "crates/codec/src/stores.rt";
 const WORDS: &str = "crates/codec/src/words.rt";
+const DISPERSION: &str = "crates/dispersion/src/lib.rt";
 const GRID: &str = "crates/grid/src/lib.rt";
 const HEADS: &str = "crates/heads/src/lib.rt";
 const ON_BLOCK: &str = "crates/on_block/src/saving.rt";
@@ -52,7 +53,7 @@ pub fn put_word(out: &mut [u8], at: usize, n: u64) {
 }",
 );
 
-pub const ALL: [Doctored; 16] = [
+pub const ALL: [Doctored; 17] = [
     Doctored {
         what: "a scratch array, and its bytes copied",
         changes: &[Change(
@@ -309,6 +310,20 @@ struct Pair {
             ),
         ],
         told: &[(FLOATS, "a: u8,"), (FLOATS, "b: u8,")],
+    },
+    Doctored {
+        what: "an array of bytes in a method",
+        changes: &[Change(
+            DISPERSION,
+            "
+        let k = self.coeffs(eps0, dt);
+",
+            "
+        let k = self.coeffs(eps0, dt);
+        let scratch = [0u8; 25];
+",
+        )],
+        told: &[(DISPERSION, "let scratch = [0u8; 25];")],
     },
     Doctored {
         what: "bytes as text",

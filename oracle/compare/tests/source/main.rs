@@ -1,8 +1,9 @@
 //! The save's writer puts each number straight to its place, with no byte array between (document 02, S-6). No
 //! contract can say that, since it speaks of the bytes at the end alone: it is read off the source.
 //!
-//! Every function that `cichowiej_save` is made of is looked at, found call by call through `use` lines and paths;
-//! and the types and constants of every file that theirs name. What is allowed stands in rules.rs.
+//! Every function that `cichowiej_save` is made of is looked at, found call by call through `use` lines and paths (of a
+//! method every one of its name); and the types and constants of every file that theirs name. What is allowed stands in
+//! rules.rs.
 
 mod code;
 mod doctored;
@@ -17,7 +18,7 @@ use tree::{Texts, Tree, texts};
 const SAVE: [&str; 3] = ["api", "saving", "cichowiej_save"];
 
 /// The files that the writer's functions stand in, below crates/.
-const WRITER: [&str; 18] = [
+const WRITER: [&str; 19] = [
     "api/src/saving.rt",
     "block/src/lib.rt",
     "codec/src/floats.rt",
@@ -34,6 +35,7 @@ const WRITER: [&str; 18] = [
     "puts/src/lib.rt",
     "reads/src/entries.rt",
     "reads/src/lib.rt",
+    "root/src/vacuum.rt",
     "saves/src/lib.rt",
     "shapes/src/lib.rt",
 ];

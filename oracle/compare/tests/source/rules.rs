@@ -140,7 +140,9 @@ fn arguments<'a>(one: &'a Reached) -> impl Iterator<Item = Argument<'a>> {
         .iter()
         .filter_map(|(call, to)| Some((call, (*to)?)));
     known.flat_map(|(call, to)| {
-        let types = to.takes.iter().map(|parameter| parameter.of.as_str());
+        // a method's own value stands before its name
+        let takes = to.takes.iter().skip(usize::from(call.is_method));
+        let types = takes.map(|parameter| parameter.of.as_str());
         let pairs = call.arguments.iter().cloned().zip(types);
         pairs.map(move |(argument, of)| (argument, of, to))
     })

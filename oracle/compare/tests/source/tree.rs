@@ -19,7 +19,7 @@ pub struct Tree {
     files: BTreeMap<Module, (String, File)>,
 }
 
-/// A function that is reached, and each of its calls with what it calls, where that is known.
+/// A function that is reached, and each of its calls with what it may call, where that is known.
 pub struct Reached<'a> {
     pub path: &'a str,
     pub module: &'a Module,
@@ -63,8 +63,10 @@ impl Tree {
             let mut calls = Vec::new();
             for call in code::calls(&function.body) {
                 let called = self.called(module, &call);
-                next.extend(called);
-                calls.push((call, called.map(|(_, function)| function)));
+                next.extend(&called);
+                let to = called.iter().map(|(_, function)| Some(*function));
+                let to: Vec<_> = to.chain(called.is_empty().then_some(None)).collect();
+                calls.extend(to.into_iter().map(|to| (call.clone(), to)));
             }
             out.push(Reached {
                 path: self.path(module),
@@ -90,11 +92,23 @@ impl Tree {
         out
     }
 
-    fn called(&self, module: &Module, call: &Call) -> Option<(&Module, &Function)> {
+    /// What a call may call: of a method every one of its name, since no type is looked at.
+    fn called(&self, module: &Module, call: &Call) -> Vec<(&Module, &Function)> {
         if call.is_method {
-            return None;
+            return self.methods(&call.path[0]);
         }
-        self.function(&self.full(module, &call.path))
+        let function = self.function(&self.full(module, &call.path));
+        function.into_iter().collect()
+    }
+
+    fn methods(&self, name: &str) -> Vec<(&Module, &Function)> {
+        let functions = self
+            .files
+            .iter()
+            .flat_map(|(module, (_, file))| file.functions.iter().map(move |f| (module, f)));
+        functions
+            .filter(|(_, function)| function.is_method() && function.name == name)
+            .collect()
     }
 
     fn function(&self, full: &[String]) -> Option<(&Module, &Function)> {

@@ -1,31 +1,30 @@
--- Each arm knows which pole it has, and the definition goes by the same cases.
-use mathlib.Core.Path.{_∙_}
+use mathlib.Core.Path.{ap, sym}
+use mathlib.Core.Bool.{Bool, cond}
 use borrow.Author.Needs.{needs}
-use Rattle.dispersion.specs.Ade.{adeCoeffs, firstOrder}
+use Rattle.dispersion.specs.Ade.{badPole}
+use Rattle.dispersion.proofs.Finite.{turned-is}
 use Rattle.dispersion.proofs.Pole.ade_coeffs.Statement.{statement}
 use Rattle.dispersion.proofs.Pole.ade_coeffs.Tie as tie
 
 returns : tie.Need-returns
-unfolding adeCoeffs
-returns c = c .second-order-coeffs .ensures ∙ rw (c .before .before .self .given .1)
+returns c =
+    let d = c .before in
+    turned-is _ _ _ (d .before .before .before .coeffs .ensures) (d .before .before .is-finite .ensures) (d .before .is-finite2 .ensures) (d .is-finite3 .ensures)
+    (ap (λ (t : Bool). cond t 0 badPole) (sym (c .if1 .taken)))
 
 returns-2 : tie.Need-returns-2
-unfolding adeCoeffs
-returns-2 c = c .second-order-coeffs2 .ensures ∙ rw (c .before .before .self2 .given .1)
-
-returns-3 : tie.Need-returns-3
-unfolding adeCoeffs firstOrder
-returns-3 c = rw (c .before .self3 .given .1)
+returns-2 c =
+    let d = c .before in
+    turned-is _ _ _ (d .before .before .before .coeffs .ensures) (d .before .before .is-finite .ensures) (d .before .is-finite2 .ensures) (d .is-finite3 .ensures)
+    (ap (λ (t : Bool). cond t 0 badPole) (sym (c .if1 .left)))
 
 pub ade-coeffs-spec : {M : Type 1} → statement M
 ade-coeffs-spec =
     tie.close
     (tie.spec
-    (λ c. search needs)
     (λ c κs. search needs)
-    (λ c. search needs)
     (λ c κs. search needs)
-    (λ c. search needs)
+    (λ c κs. search needs)
+    (λ c κs. search needs)
     returns
-    returns-2
-    returns-3)
+    returns-2)

@@ -10,7 +10,8 @@ unfolding studyFits
 returns c = rw (unless (c .before .counts-fit .ensures) (c .if1 .taken))
 
 poles-fit-requires : tie.Need-poles-fit-requires
-poles-fit-requires c κs = counts-of _ (met (c .before .before .before .counts-fit .ensures) (c .before .before .if1 .left)) .1
+poles-fit-requires c κs =
+    let k = counts-of _ (met (c .before .before .before .counts-fit .ensures) (c .before .before .if1 .left)) in (k .1, k .0)
 
 returns-2 : tie.Need-returns-2
 unfolding studyFits

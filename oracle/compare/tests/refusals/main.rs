@@ -284,31 +284,37 @@ fn openings_with_other_constants() {
     }
 }
 
-/// A block with constants that are none is a record all the same: 3 in its place, after 1 and 2 and before 4.
+/// A record that contradicts itself is 3 in its place: after 1 and 2, and before what is lent. Opening and rewind judge no
+/// standing record.
+fn bad_in_its_place(study: &Study, calls: &[Call]) {
+    let (free, judging) = calls.split_at(NOT_JUDGED);
+    let mut flat = study.clone();
+    flat.block[..2].fill(0);
+    let timeless = with_double(study, block::DOUBLES[3], 0);
+    let mut short = study.clone();
+    short.ids.pop();
+    for store in short.stores_mut() {
+        store.pop();
+    }
+    for call in free {
+        due(study, call, 0);
+    }
+    for call in judging {
+        due(study, call, BAD_STUDY);
+        due(&short, call, BAD_STUDY);
+        due(&flat, call, BAD_SIZE);
+        due(&timeless, call, BAD_SPACING);
+    }
+}
+
+/// A block with constants that are none is a record all the same.
 #[test]
 fn blocks_with_other_constants() {
     let calls = calls();
-    let (free, judging) = calls.split_at(NOT_JUDGED);
     for constants in 2..=255 {
         let mut study = study();
         study.put_constants(constants);
-        for call in free {
-            due(&study, call, 0);
-        }
-        let mut flat = study.clone();
-        flat.block[..2].fill(0);
-        let timeless = with_double(&study, block::DOUBLES[3], 0);
-        let mut short = study.clone();
-        short.ids.pop();
-        for store in short.stores_mut() {
-            store.pop();
-        }
-        for call in judging {
-            due(&study, call, BAD_STUDY);
-            due(&flat, call, BAD_SIZE);
-            due(&timeless, call, BAD_SPACING);
-            due(&short, call, BAD_STUDY);
-        }
+        bad_in_its_place(&study, &calls);
     }
 }
 

@@ -1,6 +1,6 @@
 //! Poles that cannot be stepped: document 02's S-2.
 
-use super::{NOT_JUDGED, added, due, judged, with_double};
+use super::{added, bad_in_its_place, due, judged, with_double};
 use crate::standing::{SIZES, SLOTS, SPACINGS, calls, material, pole, study};
 use compare::call::Call;
 use compare::engine::Study;
@@ -55,31 +55,13 @@ fn with_bad() -> Vec<Study> {
     studies
 }
 
-/// 3 in its place: after 1 and 2, and before what is lent. Opening and rewind judge no standing record.
 #[test]
 fn a_record_with_one() {
     let calls = calls();
-    let (free, judging) = calls.split_at(NOT_JUDGED);
     let studies = with_bad();
     assert_eq!(studies.len(), 3 * bad().len());
     for study in studies {
-        let mut flat = study.clone();
-        flat.block[..2].fill(0);
-        let timeless = with_double(&study, DT, 0);
-        let mut short = study.clone();
-        short.ids.pop();
-        for store in short.stores_mut() {
-            store.pop();
-        }
-        for call in judging {
-            due(&study, call, BAD_STUDY);
-            due(&short, call, BAD_STUDY);
-            due(&flat, call, BAD_SIZE);
-            due(&timeless, call, BAD_SPACING);
-        }
-        for call in free {
-            due(&study, call, 0);
-        }
+        bad_in_its_place(&study, &calls);
     }
 }
 

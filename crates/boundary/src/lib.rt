@@ -2,7 +2,7 @@
 pub mod lossy;
 
 // The lossy edge: at most thickness cells from each wall, sigma_max at the wall itself, falling by a power of the depth.
-#[derive(Drop)]
+#[derive(Clone, Copy)]
 pub struct LossyAbsorber {
     pub thickness: usize,
     pub order: usize,

@@ -1,16 +1,16 @@
 -- Lists made of blocks of one length, for any element type: their lengths, their elements, and one block replaced. Assumes nothing.
 use Prim.Native.Nat.{ℕ, zero, suc, ◌+◌, ◌*◌, ◌≤◌, ◌<◌}
-use native.Mathlib.Nat.{suc-mul, zero-mul, mul-one, eq-or-lt_of_le, le_of_suc-le-suc, not-suc-le-zero, add-zero, mul-le-mul_right, add-mul, one-mul}
+use native.Mathlib.Nat.{eq-or-lt_of_le, le_of_suc-le-suc, not-suc-le-zero, add-zero}
 use native.Mathlib.Omega.{arith}
 use mathlib.Core.Path.{◌≡◌, refl, sym, ap, ◌∙◌, subst}
 use mathlib.Core.Logic.{⊎_elim}
-use mathlib.Core.List.{List, [], ◌∷◌, ◌++◌, append_assoc}
-use lib.ListN.{length, take, drop, length-append, length-drop}
+use mathlib.Core.List.{List, ◌++◌, append_assoc}
+use lib.ListN.{length, take, drop, length-drop}
 use lib.Seq.{drop_at, take_all, take-add, take-append-le, drop-append-le, take-append_seam, drop-append_seam, drop-append-add, drop-drop, length-take-le}
 use Rattle.codec.specs.Lists.{put, part}
 use Rattle.codec.proofs.Lists.{put_whole, put_length, drop_put}
-use Rattle.cells.specs.Cells.{joined, row, cellwise}
-use Rattle.cells.specs.Reading.{block_end, length_cellwise, length_joined, length_row}
+use Rattle.cells.specs.Cells.{joined}
+use Rattle.cells.specs.Reading.{block_end, length_joined}
 use Rattle.cells.specs.Inner.Blocks.{on}
 
 -- equal blocks make equal lists

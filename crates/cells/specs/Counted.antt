@@ -1,6 +1,6 @@
 -- A box has as many cells of a grid as the product of its ranges, cut to the grid. Proved here, so that nothing of it has to be believed.
 use Rattle.std.specs.Prelude.{ℕ, zero, suc, ◌+◌, ◌-◌, ◌*◌, ◌≤◌, ◌<◌, min, ◌≡◌, refl, Bool, true, false, cond, ◌&&◌, List, [], ◌∷◌, ◌++◌, leb, ltb}
-use Rattle.std.proofs.Common.{zero-mul, add-mul, mul-zero, mul-one, one-mul, arith, sym, ap, ◌∙◌, ltb-true, ltb-false, leb-true, leb-false}
+use Rattle.std.proofs.Common.{zero-mul, add-mul, mul-zero, mul-one, one-mul, arith, sym, ◌∙◌, ltb-true, ltb-false, leb-true, leb-false}
 use Rattle.cells.specs.Cells.{joined, row, cellwise}
 use Rattle.cells.specs.Box.{within, in_box, trues, box_cells}
 use Rattle.cells.specs.declared.IndexBox.{IndexBox}

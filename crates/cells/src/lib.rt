@@ -1,10 +1,12 @@
 // A box of cells of one store set to one value, f64 and u32. The proofs of both cite the same laws, over the element type.
+#![tactic(auto)]
+
 ghost use Rattle.std.specs.Prelude.{◌≡◌, ◌+◌, ◌*◌, ◌≤◌, min, length};
 ghost use Rattle.cells.specs.Box.{box_cells};
 ghost use Rattle.cells.specs.Counted.{cut};
 ghost use Rattle.cells.specs.Inner.Blocks.{Ends, on, set_row, set_plane, set_box};
 // Cells by half-open ranges of indices: i0 up to i1, and so on.
-#[derive(Drop)]
+#[derive(Clone, Copy)]
 pub struct IndexBox {
     pub i0: usize,
     pub i1: usize,

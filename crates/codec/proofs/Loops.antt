@@ -1,7 +1,7 @@
 -- The loops over a store, stated once over the width and the element: what each has done before its turn i, and what a turn adds.
 use mathlib.Core.Path.{◌≡◌, refl, sym, ap, ◌∙◌}
 use mathlib.Core.List.{List, [], ◌∷◌, ◌++◌, append-nil}
-use mathlib.Core.Bool.{Bool, true, false, ◌&&◌, and_true, and-false}
+use mathlib.Core.Bool.{Bool, true, false, ◌&&◌, and-true, and-false}
 use Prim.Native.Nat.{ℕ, suc, ◌+◌, ◌-◌, ◌*◌, ◌≤◌, ◌<◌}
 use native.Mathlib.Nat.{mul-suc, mul-le-mul_left}
 use native.Mathlib.Numerals.{add-one}
@@ -109,7 +109,7 @@ module _ {w : ℕ} {p : ℕ → Bool} {s : List ℕ} {at n : ℕ} where
         is =
             all_pass_add w p i 1 (drop at s)
             ∙ ap (λ (t : Bool). t && all_pass w p 1 (drop (w * i) (drop at s))) k.is
-            ∙ and_true (p (unle (take w (drop (w * i) (drop at s)))))
+            ∙ and-true (p (unle (take w (drop (w * i) (drop at s)))))
             ∙ ap (λ (q : List ℕ). p (unle q)) (sym (nth w s at i))
             ∙ h;
       }

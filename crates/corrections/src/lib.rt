@@ -12,7 +12,7 @@ use tfsf::line::PAD;
 
 // The field that is corrected, H or E: `unit` is the vacuum's permeability or permittivity, n the number of cells; the incident field that it hangs on
 // starts at `incident` of the line.
-#[derive(Drop)]
+#[derive(Clone, Copy)]
 pub struct Corrected {
     pub magnetic: bool,
     pub unit: f64,

@@ -9,7 +9,7 @@ ghost use Rattle.cpml.specs.Absorber.{axis_active, active_axes, periodic_left, a
 use grid::{Record, stores};
 
 // The refusal, the record, and the axes on which the layer absorbs.
-#[derive(Drop)]
+#[derive(Clone, Copy)]
 pub struct Absorbing {
     pub refusal: u32,
     pub study: Record,

@@ -3,7 +3,7 @@ pub mod absorber;
 pub mod memory;
 
 // A memory by the field that it belongs to and the axis of its derivative, in store order.
-#[derive(Drop)]
+#[derive(Clone, Copy)]
 pub enum Psi {
     Exy,
     Exz,
@@ -20,14 +20,14 @@ pub enum Psi {
 }
 
 // Which store a memory lies in, and which of that store's six parts it is.
-#[derive(Drop)]
+#[derive(Clone, Copy)]
 pub struct Place {
     pub electric: bool,
     pub number: usize,
 }
 
 // A memory after a step, and what it adds to the derivative.
-#[derive(Drop)]
+#[derive(Clone, Copy)]
 pub struct Advanced {
     pub memory: f64,
     pub answer: f64,

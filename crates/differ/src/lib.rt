@@ -1,4 +1,6 @@
 // At how many places two lists differ, and what was seen of several together.
+#![tactic(auto)]
+
 ghost use Rattle.std.specs.Prelude.{◌≡◌, ◌&&◌, ◌≤◌, length};
 ghost use Rattle.differ.specs.Apart.{unlike, apart, pattern, element, together};
 
@@ -57,7 +59,7 @@ fn bytes_apart(a: &[u8], b: &[u8]) -> usize
 }
 
 // At how many places two lists differ, and whether a change that is made on purpose is seen.
-#[derive(Drop)]
+#[derive(Clone, Copy)]
 pub struct Compared {
     pub apart: usize,
     pub seen: u64,
@@ -123,7 +125,7 @@ pub fn bytes_compared(a: &[u8], b: &mut [u8]) -> Compared
 
 // Answers that were read beside numbers: whether all were there, how many they were, at how many places they differ, and in how many comparisons a change that was
 // made on purpose was seen.
-#[derive(Drop)]
+#[derive(Clone, Copy)]
 pub struct Seen {
     pub whole: bool,
     pub numbers: u64,

@@ -1,4 +1,6 @@
 // Materials with poles, and the coefficients of the recursion that steps a pole's polarization.
+#![tactic(auto)]
+
 ghost use Rattle.std.specs.Prelude.{◌≡◌};
 ghost use Rattle.std.specs.Float.Ieee.Scale.{finite};
 ghost use Rattle.dispersion.specs.Ade.{second_order, ade_coeffs, turned};
@@ -9,7 +11,7 @@ pub const MAX_POLES: usize = 4;
 
 pub const BAD_POLE: u32 = 19;
 
-#[derive(Drop)]
+#[derive(Clone, Copy)]
 pub enum Pole {
     Lorentz {
         delta_eps: f64,
@@ -27,13 +29,13 @@ pub enum Pole {
 }
 
 // A place for a pole. A field cannot be an array of enums, so the enum stands in a struct.
-#[derive(Drop)]
+#[derive(Clone, Copy)]
 pub struct PoleSlot {
     pub pole: Pole,
 }
 
 // P(n+1) = a1 P(n) + a2 P(n-1) + a3 E(n).
-#[derive(Drop)]
+#[derive(Clone, Copy)]
 pub struct AdeCoeffs {
     pub a1: f64,
     pub a2: f64,
@@ -41,14 +43,14 @@ pub struct AdeCoeffs {
 }
 
 // A pole's coefficients as they are, and BAD_POLE where one of them is not finite.
-#[derive(Drop)]
+#[derive(Clone, Copy)]
 pub struct Turned {
     pub refusal: u32,
     pub coeffs: AdeCoeffs,
 }
 
 // The first pole_count places hold the poles; what stands in the others means nothing.
-#[derive(Drop)]
+#[derive(Clone, Copy)]
 pub struct DispersiveMaterial {
     pub eps_inf: f64,
     pub sigma: f64,

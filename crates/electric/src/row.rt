@@ -14,7 +14,7 @@ use fdtd::rows::Side;
 use grid::stores;
 
 // Where dp stands, and whether there is any.
-#[derive(Drop)]
+#[derive(Clone, Copy)]
 pub struct Change {
     pub on: bool,
     pub at: usize,

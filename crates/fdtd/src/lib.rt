@@ -5,7 +5,7 @@ pub mod turns;
 
 // One axis: its cells, their size, whether it wraps, whether its layer is on, and where its component begins in a field, its two memories among the six,
 // and its three tables among all tables.
-#[derive(Drop)]
+#[derive(Clone, Copy)]
 pub struct Axis {
     pub n: usize,
     pub d: f64,
@@ -17,7 +17,7 @@ pub struct Axis {
 }
 
 // The layer's numbers at one place.
-#[derive(Drop)]
+#[derive(Clone, Copy)]
 pub struct Coef {
     pub kinv: f64,
     pub b: f64,

@@ -12,7 +12,7 @@ use cpml::memory;
 
 // A side on which a row's derivatives are taken. Its axis lies across the row, where the layer is k for each cell and the neighbours' numbers begin at
 // other; or along it, where the layer is taken from three tables of len numbers each, the first from tab on. From lo to hi the layer is quiet (c is 0).
-#[derive(Drop)]
+#[derive(Clone, Copy)]
 pub struct Side {
     pub along: bool,
     pub on: bool,

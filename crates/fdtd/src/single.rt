@@ -15,7 +15,7 @@ pub const SHORT: usize = 8;
 
 // What the cells of a row share: its first cell, the first cells of the rows beside it on s and on t, whether they may move by their places on s and on t, and
 // the layers' numbers there.
-#[derive(Drop)]
+#[derive(Clone, Copy)]
 pub struct Shared {
     pub q: usize,
     pub bs: usize,

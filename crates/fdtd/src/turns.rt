@@ -11,7 +11,7 @@ use crate::rows::Side;
 use crate::{Axis, Coef, rows};
 use grid::Record;
 
-#[derive(Drop)]
+#[derive(Clone, Copy)]
 pub struct Turn {
     pub r: Axis,
     pub s: Axis,
@@ -21,7 +21,7 @@ pub struct Turn {
 }
 
 // A row of cells: its places on s and t, its first cell, and the first cells of the rows beside it on s and on t.
-#[derive(Drop)]
+#[derive(Clone, Copy)]
 pub struct Spot {
     pub s: usize,
     pub t: usize,
@@ -31,7 +31,7 @@ pub struct Spot {
 }
 
 // The cells of a row from start up to end have a neighbour along it; from lo to hi the layer is quiet.
-#[derive(Drop)]
+#[derive(Clone, Copy)]
 pub struct Run {
     pub start: usize,
     pub end: usize,

@@ -5,7 +5,7 @@ pub mod reset;
 use grid::Record;
 
 // The refusal, the record, and the number read, +0.0 where the call was refused.
-#[derive(Drop)]
+#[derive(Clone, Copy)]
 pub struct Reading {
     pub refusal: u32,
     pub study: Record,

@@ -1,9 +1,8 @@
 -- Laws on tests: the parts of a conjunction, a first fault, the two ways past a refusal. Assumes nothing.
 use Prim.Native.Nat.{ℕ, zero, suc}
 use native.Mathlib.Omega.{arith}
-use mathlib.Core.Bool.{Bool, true, false, not, ◌&&◌}
+use mathlib.Core.Bool.{Bool, true, false, ◌&&◌}
 use mathlib.Core.Path.{◌≡◌, refl, sym, ◌∙◌}
-use borrow.Author.Tests.{not-true, not-false}
 use Rattle.grid.specs.Fault.{first}
 use Rattle.grid.specs.Stores.{or_else}
 
@@ -23,11 +22,11 @@ pub and_no : {a r : Bool} (b : Bool) → r ≡ a → r ≡ false → false ≡ (
 and_no {a} b p q = rw (sym p ∙ q)
 
 -- the same of a branch on `!r`
-pub unless : {a r : Bool} → r ≡ a → not r ≡ true → a ≡ false
-unless p q = sym p ∙ not-true _ q
+pub unless : {a r : Bool} → r ≡ a → r ≡ false → a ≡ false
+unless p q = sym p ∙ q
 
-pub met : {a r : Bool} → r ≡ a → not r ≡ false → a ≡ true
-met p q = sym p ∙ not-false _ q
+pub met : {a r : Bool} → r ≡ a → r ≡ true → a ≡ true
+met p q = sym p ∙ q
 
 -- a first fault that is none: the test passed, and no later one is at fault
 pub first_none : (a : Bool) (n later : ℕ) → first a (suc n) later ≡ 0 → (a ≡ true) × (later ≡ 0)

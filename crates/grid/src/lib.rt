@@ -1,4 +1,6 @@
 // The study record, its nine stores, and the four refusals that come first in every call.
+#![tactic(auto)]
+
 pub mod fault;
 pub mod stores;
 
@@ -6,7 +8,7 @@ use dispersion::DispersiveMaterial;
 use root::Spacings;
 
 // Which faces of a total-field/scattered-field region are closed: none, the two z faces, the lower z face, all six.
-#[derive(Drop)]
+#[derive(Clone, Copy)]
 pub enum RegionKind {
     Absent,
     SlabZ,
@@ -15,7 +17,7 @@ pub enum RegionKind {
 }
 
 // The corners are inclusive; those of an absent region mean nothing.
-#[derive(Drop)]
+#[derive(Clone, Copy)]
 pub struct Region {
     pub kind: RegionKind,
     pub i0: usize,
@@ -26,7 +28,7 @@ pub struct Region {
     pub k1: usize,
 }
 
-#[derive(Drop)]
+#[derive(Clone, Copy)]
 pub struct Clock {
     pub time: f64,
     pub steps: u32,
@@ -34,7 +36,7 @@ pub struct Clock {
 
 // built_count is the number of materials when dispersion was last built, 0 where it is off. constants is the set of vacuum's constants, 0 the Rust's and 1
 // those of 2019.
-#[derive(Drop)]
+#[derive(Clone, Copy)]
 pub struct Record {
     pub nx: usize,
     pub ny: usize,
@@ -53,7 +55,7 @@ pub struct Record {
 }
 
 // The refusal's number, 0 where the call was accepted, and the record after it.
-#[derive(Drop)]
+#[derive(Clone, Copy)]
 pub struct Answer {
     pub refusal: u32,
     pub study: Record,

@@ -11,7 +11,7 @@ use crate::{Record, fault};
 pub const BAD_STORE: u32 = 4;
 
 // The lengths of the nine stores, in document 01's order of them.
-#[derive(Drop)]
+#[derive(Clone, Copy)]
 pub struct Lengths {
     pub electric: usize,
     pub magnetic: usize,
@@ -59,7 +59,7 @@ fn same_lengths(a: Lengths, b: Lengths) -> bool
 }
 
 // What a call asks of its record first: the record's own refusal and, where that is 0, how long each store has to be.
-#[derive(Drop)]
+#[derive(Clone, Copy)]
 pub struct Judged {
     pub refusal: u32,
     pub lengths: Lengths,

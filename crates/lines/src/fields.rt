@@ -10,7 +10,7 @@ use crate::text;
 use codec::{floats, numbers};
 
 // Where the electric and the magnetic numbers begin among the bytes, and how many cells there are.
-#[derive(Drop)]
+#[derive(Clone, Copy)]
 pub struct Fields {
     pub electric: usize,
     pub magnetic: usize,

@@ -18,7 +18,7 @@ pub const TOO_MANY_POLES: u32 = 6;
 pub const NO_SUCH_MATERIAL: u32 = 7;
 
 // The refusal, the record, and the id of the material that was added.
-#[derive(Drop)]
+#[derive(Clone, Copy)]
 pub struct Added {
     pub refusal: u32,
     pub study: Record,
@@ -26,14 +26,14 @@ pub struct Added {
 }
 
 // What is put into a box: three numbers, or a registered material.
-#[derive(Drop)]
+#[derive(Clone, Copy)]
 pub enum Put {
     Numbers { eps_r: f64, mu_r: f64, sigma: f64 },
     Library { id: u32 },
 }
 
 // The refusal, the record, and how many cells were set.
-#[derive(Drop)]
+#[derive(Clone, Copy)]
 pub struct Counted {
     pub refusal: u32,
     pub study: Record,

@@ -8,7 +8,7 @@ use codec::stores;
 pub const LONGEST: usize = 864;
 
 // How many elements each store of a study has, and how many samples there are.
-#[derive(Drop)]
+#[derive(Clone, Copy)]
 pub struct Counts {
     pub e: usize,
     pub h: usize,

@@ -9,7 +9,7 @@ use grid::Record;
 use root::vacuum;
 
 // What came of a study. Where it is not whole the list does not hold it, and the rest is 0.
-#[derive(Drop)]
+#[derive(Clone, Copy)]
 pub struct Outcome {
     pub whole: bool,
     pub refusal: u32,

@@ -1,4 +1,6 @@
 // IEEE 754's squareRoot on f64 by whole numbers, the constants of vacuum, and the Courant numbers.
+#![tactic(auto)]
+
 pub mod vacuum;
 
 ghost use Rattle.std.specs.Prelude.{◌≡◌, ◌*◌, ◌^◌, ◌<◌, T};
@@ -28,14 +30,14 @@ pub const MU0_2019: f64 = 1.25663706212e-6;
 pub const C0_2019: f64 = 299792458.0;
 
 // A whole number m * 2^k.
-#[derive(Drop)]
+#[derive(Clone, Copy)]
 struct Scaled {
     pub m: u64,
     pub k: u64,
 }
 
 // Cell sizes and the time step.
-#[derive(Drop)]
+#[derive(Clone, Copy)]
 pub struct Spacings {
     pub dx: f64,
     pub dy: f64,

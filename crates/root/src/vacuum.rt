@@ -5,7 +5,7 @@ ghost use Rattle.root.specs.Constants as vacuum;
 use crate::{C0, C0_2019, EPS0, EPS0_2019, MU0, MU0_2019};
 
 // One set of them.
-#[derive(Drop)]
+#[derive(Clone, Copy)]
 pub struct Vacuum {
     pub eps0: f64,
     pub mu0: f64,

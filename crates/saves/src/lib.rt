@@ -13,7 +13,7 @@ use grid::{Answer, Record, fault, stores};
 pub const NO_ROOM: u32 = 12;
 
 // The refusal, the record as it came, and the bytes that its save takes.
-#[derive(Drop)]
+#[derive(Clone, Copy)]
 pub struct Length {
     pub refusal: u32,
     pub study: Record,

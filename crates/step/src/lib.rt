@@ -9,7 +9,7 @@ use grid::stores::Lengths;
 use grid::{Clock, Record};
 
 // The refusal's number, 0 where the call was accepted, and the clock after it: nothing else of a record moves in a step.
-#[derive(Drop)]
+#[derive(Clone, Copy)]
 pub struct Moved {
     pub refusal: u32,
     pub clock: Clock,

@@ -17,7 +17,7 @@ pub fn magnetic_value(h: f64, f: f64, curl: f64) -> f64
 }
 
 // What E(n) and E(n+1) are multiplied by.
-#[derive(Drop)]
+#[derive(Clone, Copy)]
 pub struct Weights {
     pub ca: f64,
     pub cb: f64,

@@ -1,0 +1,7 @@
+use Rattle.codec.proofs.Bytes.{put_halves}
+use Rattle.codec.proofs.numbers.put_u32.Goals as goal
+
+pub returns : goal.returns
+returns c =
+    rw (c.put_u16-2.ensures, c.put_u16.ensures)
+    (put_halves 2 2 c.args.out.now c.args.at c.args.n c.requires)

@@ -1,4 +1,6 @@
 // Opening a study, as the Rust's new_rect.
+#![tactic(auto)]
+
 pub mod layer;
 
 ghost use Rattle.std.specs.Prelude.{◌≡◌, ◌+◌, ◌*◌, ◌≤◌, length};

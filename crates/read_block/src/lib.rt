@@ -1,4 +1,6 @@
 // What is read from the fields, on the record that a block holds. The block is lent to be read.
+#![tactic(auto)]
+
 ghost use Rattle.std.specs.Prelude.{◌≡◌};
 ghost use Rattle.grid.specs.Vacuum.{eps_of, mu_of};
 ghost use Rattle.root.specs.Rounded.{zero_f};

@@ -1,5 +1,5 @@
 -- The head's line and the line of a refusal as code writes them, word by word. Assumes nothing.
-use Prim.Native.Nat.{ℕ, ◌+◌}
+use Prim.Native.Nat.{ℕ}
 use mathlib.Core.Path.{◌≡◌, subst}
 use mathlib.Core.List.{List, ◌++◌, append_assoc}
 use Rattle.lines.specs.Listing.{decimal, blank, newline, ended, line, word_study, word_steps, word_materials, word_refused, head_line, refused_line}

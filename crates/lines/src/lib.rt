@@ -1,4 +1,6 @@
 // The listing of a save: its study in lines of text, or the number of its refusal.
+#![tactic(auto)]
+
 mod fields;
 mod text;
 

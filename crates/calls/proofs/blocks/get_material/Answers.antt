@@ -5,7 +5,6 @@ use native.Mathlib.Omega.{arith}
 use Rattle.heads.specs.Numbers.{ml_of}
 use Rattle.calls.specs.Blocks.{material_of}
 use Rattle.calls.proofs.Kept.{material_long}
-use Rattle.std.proofs.Common.{rules}
 use Rattle.calls.proofs.blocks.get_material.Goals as goal
 
 pub get_ml-n-requires : goal.get_ml-n-requires

@@ -1,5 +1,4 @@
 use Rattle.calls.proofs.Kept.{kept_new, kept_old}
-use Rattle.std.proofs.Common.{rules}
 use Rattle.calls.proofs.blocks.keep.Goals as goal
 
 pub returns-then-refusal-eq0 : goal.returns-then-refusal-eq0

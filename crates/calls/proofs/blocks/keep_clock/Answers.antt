@@ -1,5 +1,4 @@
 use Rattle.calls.proofs.Kept.{clock_new, clock_old}
-use Rattle.std.proofs.Common.{rules}
 use Rattle.calls.proofs.blocks.keep_clock.Goals as goal
 
 pub returns-then-refusal-eq0 : goal.returns-then-refusal-eq0

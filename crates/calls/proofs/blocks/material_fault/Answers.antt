@@ -1,8 +1,6 @@
-use native.Mathlib.Omega.{arith}
 use mathlib.Core.Path.{ap, ◌∙◌}
 use Rattle.heads.specs.Numbers.{ml_shaped}
 use Rattle.calls.proofs.Kept.{other_length, right_length}
-use Rattle.std.proofs.Common.{rules}
 use Rattle.calls.proofs.blocks.material_fault.Goals as goal
 
 pub returns-then-m-ne-ML_LENGTH : goal.returns-then-m-ne-ML_LENGTH

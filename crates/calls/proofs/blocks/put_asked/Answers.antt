@@ -1,5 +1,4 @@
 use mathlib.Core.Path.{refl}
-use Rattle.std.proofs.Common.{rules}
 use Rattle.calls.proofs.blocks.put_asked.Goals as goal
 
 pub returns-then-library : goal.returns-then-library

@@ -1,12 +1,10 @@
 use mathlib.Core.Path.{◌≡◌, ap, ◌∙◌}
-use native.Mathlib.Omega.{arith}
-use lib.ListN.{length, length-set}
+use lib.ListN.{length}
 use Rattle.dispersion.specs.declared.Turned.{Turned}
 use Rattle.dispersion.specs.Ade.{turned}
 use Rattle.heads.specs.Numbers.{pole_of}
 use Rattle.calls.specs.Poles.{coeffs_fault, coeffs_call}
 use Rattle.calls.proofs.Three.{written, told, room, refused, accepted}
-use Rattle.std.proofs.Common.{rules}
 use Rattle.calls.proofs.poles.put_coeffs.Goals as goal
 
 pub returns-then-f-ne0 : goal.returns-then-f-ne0

@@ -1,4 +1,6 @@
 // The polarizations of the dispersive cells, moved on before the electric half step.
+#![tactic(auto)]
+
 ghost use Rattle.std.specs.Prelude.{◌≡◌, ℕ, ◌+◌, ◌*◌, ◌≤◌, ◌<◌, length, get_or};
 ghost use Rattle.root.specs.Rounded.{◌⊕◌, ◌⊖◌};
 ghost use Rattle.dispersion.specs.Ade.{ade_coeffs};

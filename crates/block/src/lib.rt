@@ -1,4 +1,6 @@
 // The study record as one block of bytes: GH's payload, then sixteen entries for its materials.
+#![tactic(auto)]
+
 ghost use Rattle.std.specs.Prelude.{true, cond, ◌≡◌, ℕ, ◌+◌, ◌≤◌, ◌<◌, ltb, length, replicate};
 ghost use Rattle.codec.specs.Lists.{put};
 ghost use Rattle.cells.specs.Cells.{joined};

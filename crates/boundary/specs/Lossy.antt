@@ -1,5 +1,5 @@
 -- The graded conductivity of the lossy absorber (boundary.rs, `AbsorberLayer` and `apply_lossy_absorber`; document 01, 4). Definitions only.
-use Rattle.std.specs.Prelude.{ℕ, zero, suc, ◌+◌, ◌-◌, ◌*◌, ◌/◌, ◌%◌, Bool, false, cond, ◌&&◌, List, pos, ◌==◌, nat_lt, slice_index_or, Float}
+use Rattle.std.specs.Prelude.{ℕ, zero, suc, ◌-◌, ◌*◌, ◌/◌, ◌%◌, Bool, false, cond, ◌&&◌, List, pos, ◌==◌, nat_lt, slice_index_or, Float}
 use Rattle.std.specs.Float.{binary64}
 use Rattle.std.specs.Float.Ieee.{of_int, lt}
 use Rattle.codec.specs.Lists.{put}
@@ -9,7 +9,7 @@ use Rattle.grid.specs.declared.Record.{Record}
 use Rattle.boundary.specs.declared.LossyAbsorber.{LossyAbsorber}
 
 -- power 0 is 1.0, an even power is (u·u) to half of it, an odd one u times the even one below. The exponent falls at each call, so that n calls are
--- enough; `deep` counts them, and power-0, power-even and power-odd (proofs/Power.antt) say the three rules without it.
+-- enough; `deep` counts them, and power_0, power_even and power_odd (proofs/Power.antt) say the three rules without it.
 unfoldable pub power_in : (deep : ℕ) → Float → ℕ → Float
 power_in zero u n = one_f
 power_in (suc deep) u n =

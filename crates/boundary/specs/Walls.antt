@@ -1,6 +1,6 @@
 -- The calls that set walls: `set_periodic`, and `set_boundary` for periodic, conducting and lossy walls (boundary.rs; document 01, 4). The absorbing
 -- layer has its call in `cpml`. Definitions only.
-use Rattle.std.specs.Prelude.{ℕ, Bool, true, false, ◌&&◌, List, [], ◌∷◌, length, ◌==◌, nat_le, Float}
+use Rattle.std.specs.Prelude.{ℕ, Bool, false, ◌&&◌, List, [], ◌∷◌, length, ◌==◌, nat_le, Float}
 use Rattle.grid.specs.declared.Record.{Record}
 use Rattle.grid.specs.Fault.{first, fault_of}
 use Rattle.grid.specs.Stores.{store_lengths, or_else, fault_lent, Outcome, settle}

@@ -1,4 +1,6 @@
 // The graded conductivity of walls that absorb; the calls that set walls are in `walling`.
+#![tactic(auto)]
+
 pub mod lossy;
 
 // The lossy edge: at most thickness cells from each wall, sigma_max at the wall itself, falling by a power of the depth.

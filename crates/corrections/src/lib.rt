@@ -1,4 +1,6 @@
 // The corrections on the region's faces: all eight are one loop over a box, with a number added in each of its cells.
+#![tactic(auto)]
+
 pub mod faces;
 
 ghost use Rattle.std.specs.Prelude.{◌≡◌, ◌+◌, ◌-◌, ◌*◌, ◌≤◌, ◌<◌, length};

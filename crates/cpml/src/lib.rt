@@ -1,4 +1,6 @@
 // The convolutional absorbing layer: its memories, its tables, and the call that sets it.
+#![tactic(auto)]
+
 pub mod absorber;
 pub mod memory;
 

@@ -1,4 +1,6 @@
 // Whether a study may take its next steps, and the clock after one.
+#![tactic(auto)]
+
 ghost use Rattle.std.specs.Prelude.{◌≡◌, ◌+◌, ◌<◌, leb, ltb};
 ghost use Rattle.codec.specs.Lists.{every};
 ghost use Rattle.due.specs.Due.{fresh_ids, step_fault, ticked, last_step};

@@ -1,4 +1,6 @@
 // The electric half step: rows along one axis, r, over the other two, s and t, and in each row the three components.
+#![tactic(auto)]
+
 pub mod row;
 pub mod short;
 

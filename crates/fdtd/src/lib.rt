@@ -1,4 +1,6 @@
 // What both half steps share.
+#![tactic(auto)]
+
 pub mod rows;
 pub mod single;
 pub mod turns;

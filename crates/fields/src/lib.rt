@@ -1,4 +1,6 @@
 // The fields as a whole: cleared, their energy, and the reading of a plane.
+#![tactic(auto)]
+
 pub mod readings;
 pub mod reset;
 

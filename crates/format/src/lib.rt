@@ -1,5 +1,7 @@
 // The save's format stands in specs/, its laws in proofs/; the code that writes, judges and reads it is `puts`, `judge` and `saves`.
 // Here are its marks, which `puts` writes and `judge` asks for.
+#![tactic(auto)]
+
 pub const GH: u16 = 0x4847;
 
 pub const ML: u16 = 0x4C4D;

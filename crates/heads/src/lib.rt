@@ -1,4 +1,6 @@
 // The study record as numbers of fixed widths, one after another; `payloads` writes them as bytes, `reads` reads them, `shapes` tells whether they are a record's.
+#![tactic(auto)]
+
 ghost use Rattle.std.specs.Prelude.{◌≡◌, ◌≤◌, get_or};
 ghost use Rattle.grid.specs.Canon.{canon_region};
 ghost use Rattle.heads.specs.Numbers.{kind_num, kind_of, pole_nums, pole_of, slot_nums, slot_of, ml_of, flag_num, flag_nums, float_nums, gh_of};

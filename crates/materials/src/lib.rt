@@ -1,4 +1,6 @@
 // Materials added to the record, placed in boxes of cells, and built.
+#![tactic(auto)]
+
 ghost use Rattle.std.specs.Prelude.{◌≡◌, true, cond, ◌*◌, ◌≤◌, ◌<◌, length};
 ghost use Rattle.dispersion.specs.Material.{blank_slot};
 ghost use Rattle.grid.specs.Canon.{canon_material};

@@ -1,4 +1,6 @@
 // The payload of GH, and of one material in ML, written: each number to its own place.
+#![tactic(auto)]
+
 ghost use Rattle.std.specs.Prelude.{◌≡◌, [], ◌∷◌, ◌++◌, ◌+◌, ◌≤◌, length};
 ghost use Rattle.codec.specs.Lists.{put};
 ghost use Rattle.codec.specs.Bytes.{le, enc, bits};

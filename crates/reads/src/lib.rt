@@ -1,4 +1,6 @@
 // The payload of GH, and of one material in ML, read: each number from its own place.
+#![tactic(auto)]
+
 pub mod entries;
 
 ghost use Rattle.std.specs.Prelude.{◌≡◌, [], ◌∷◌, ◌++◌, ◌+◌, ◌≤◌, length, drop};

@@ -1,4 +1,6 @@
 // Whether numbers are those of a record, or of a material.
+#![tactic(auto)]
+
 ghost use Rattle.std.specs.Prelude.{◌≡◌};
 ghost use Rattle.heads.specs.Numbers.{is_tag, slot_shaped, three_fine, ml_shaped, ml_fine, flags_fine, corners_fine, gh_shaped, gh_fine};
 

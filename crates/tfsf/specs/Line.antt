@@ -1,6 +1,6 @@
 -- The auxiliary line that carries the incident wave, ex and hy of nz + 48 places each: the same leapfrog along z in vacuum, with first-order absorbing ends
 -- (Mur 1981; tfsf.rs, `Aux1D`). Place a of ex lies at the plane k = a - 24, place a of hy half a cell above it. n is the number of places. Definitions only.
-use Rattle.std.specs.Prelude.{ℕ, ◌+◌, ◌-◌, ◌*◌, cond, List, ◌++◌, ltb, eqb, get_or, Float}
+use Rattle.std.specs.Prelude.{ℕ, ◌+◌, ◌-◌, cond, List, ◌++◌, ltb, eqb, get_or, Float}
 use Rattle.std.specs.Float.{nan}
 use Rattle.root.specs.Rounded.{◌⊕◌, ◌⊖◌, ◌⊗◌, ◌⊘◌}
 use Rattle.root.specs.declared.Spacings.{Spacings}

@@ -1,5 +1,7 @@
 // The plane wave: the region of the total field and the auxiliary line that carries the wave. The corrections on the region's faces are defined here (specs/Corrections.antt)
 // and computed by the crate `corrections`.
+#![tactic(auto)]
+
 pub mod faces;
 pub mod line;
 pub mod region;

@@ -1,4 +1,6 @@
 // What an update computes of one number, its curl given: by these, row by row and cell by cell alike.
+#![tactic(auto)]
+
 ghost use Rattle.std.specs.Prelude.{◌≡◌};
 ghost use Rattle.root.specs.Rounded.{◌⊕◌, ◌⊖◌, ◌⊗◌, ◌⊘◌};
 ghost use Rattle.fdtd.specs.Yee.{factor, ca, cb};

@@ -1,4 +1,6 @@
 // The calls that set walls; the absorbing layer's own is in cpml.
+#![tactic(auto)]
+
 ghost use Rattle.std.specs.Prelude.{◌≡◌, true, false};
 ghost use Rattle.grid.specs.Stores.{outcome};
 ghost use Rattle.grid.specs.Edited.{with_walls};

@@ -1,0 +1,15 @@
+use Rattle.codec.specs.Lists.{part, put}
+use mathlib.Core.Path.{◌∙◌, ◌≡◌, ap, refl}
+use native.Mathlib.Omega.{arith}
+use Prim.Native.Nat.{◌+◌, ◌-◌, ◌≤◌}
+use lib.Ieee.{Float, nan}
+use Rattle.cpml.proofs.Tables.{copy_more, copy_none}
+use lib.ListN.{get_or, length, length-set, set}
+use mathlib.Core.List.{List}
+use Rattle.cpml.proofs.absorber.copy.Given as goal
+
+abbrev pub invariant-loop-i : goal.invariant-loop-i
+invariant-loop-i l = (l.i ≤ l.n) × (length l.tables ≡ length l.initial.tables) × (l.tables ≡ put l.initial.tables l.at (part l.given l.at l.i))
+
+abbrev pub decreases-loop-i : goal.decreases-loop-i
+decreases-loop-i l = l.n - l.i

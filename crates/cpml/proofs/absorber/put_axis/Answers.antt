@@ -1,0 +1,8 @@
+use Rattle.std.proofs.Common.{rules}
+use Rattle.cpml.proofs.absorber.put_axis.Goals as goal
+
+pub returns-then-on : goal.returns-then-on
+returns-then-on c = rw c.if-on.true c.copy.ensures
+
+pub returns-else-on : goal.returns-else-on
+returns-else-on c = rw c.if-on.false c.inactive_axis.ensures

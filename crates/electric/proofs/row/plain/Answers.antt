@@ -1,0 +1,16 @@
+use mathlib.Core.Path.{◌∙◌}
+use Prim.Native.Nat.{◌+◌, ◌-◌, ◌≤◌}
+use native.Mathlib.Nat.{le_refl}
+use native.Mathlib.Omega.{arith}
+use lib.ListN.{get_or}
+use lib.Ieee.{nan}
+use Rattle.root.specs.Rounded.{◌⊕◌, ◌⊖◌, ◌⊗◌, ◌⊘◌}
+use Rattle.fdtd.specs.Inner.Span.{Span}
+use Rattle.fdtd.proofs.Spans.{span_start, span_step, span_end}
+use Rattle.std.proofs.Common.{rules}
+use Rattle.electric.proofs.row.plain.Goals as goal
+
+pub loop-i-preserved : goal.loop-i-preserved
+loop-i-preserved c =
+    let l = c.loop-i in
+    (omega arith, omega arith, span_step _ _ _ _ _ _ _ l.invariant.2 (omega arith) (omega arith) (c.electric_value.ensures ∙ rw (c.at.ensures, c.at-in-loop-i.ensures, c.at-in-loop-i-2.ensures, l.invariant.2.over _ (le_refl _))))

@@ -1,0 +1,19 @@
+use mathlib.Core.Path.{◌≡◌, refl, ◌∙◌}
+use mathlib.Core.List.{List}
+use Prim.Native.Nat.{zero-le, ◌+◌, ◌*◌, ◌-◌, ◌≤◌}
+use native.Mathlib.Omega.{arith}
+use lib.ListN.{length}
+use lib.Ieee.{Float}
+use Rattle.fdtd.proofs.Lines.{fit_as}
+use Rattle.fdtd.proofs.Singles.{doing_start, doing_end}
+use Rattle.fdtd.proofs.Beside.{known_as}
+use Rattle.electric.specs.Inner.Swept.{Swept}
+use Rattle.electric.specs.Inner.Celled.{Sweeping}
+use Rattle.electric.proofs.short.cells_of_row.Given as goal
+
+abbrev pub invariant-loop-i : goal.invariant-loop-i
+invariant-loop-i l = (l.i ≤ l.g.r.n) × (length l.e ≡ length l.initial.e) × (length l.mem ≡ length l.initial.mem)
+    × ((ee mm : List Float) → Swept l.eps0 l.w l.g l.h l.media l.tab l.poles ee mm (l.s + l.t * l.g.s.n) l.initial.e l.initial.mem → Sweeping l.eps0 l.w l.g l.h l.media l.tab l.poles ee mm l.s l.t l.i l.e l.mem)
+
+abbrev pub decreases-loop-i : goal.decreases-loop-i
+decreases-loop-i l = l.g.r.n - l.i

@@ -1,0 +1,27 @@
+use mathlib.Core.Path.{refl}
+use native.Mathlib.Omega.{arith}
+use Rattle.fdtd.proofs.Singles.{lone_set}
+use Rattle.electric.proofs.Shorts.{moved_on, walled_off}
+use Rattle.std.proofs.Common.{rules}
+use Rattle.electric.proofs.short.component.Goals as goal
+
+pub curl_along-curl-requires : goal.curl_along-curl-requires
+curl_along-curl-requires c =
+    let near = c.requires.near in
+    record { cell_lt_count = (near.own, near.ons, near.own, near.ont, near.own); count_in_bounds = (near.et, near.es, near.mr) }
+
+pub term_of-requires : goal.term_of-requires
+term_of-requires c =
+    let pre = c.requires in
+    (pre.none_value.0, omega (arith, pre))
+
+pub returns-then-moves : goal.returns-then-moves
+returns-then-moves c =
+    let a = c.args in
+    let curl = c.curl_along-curl.ensures in
+    moved_on a.g a.h.now a.mem.now a.cell a.ds a.dt a.moves a.ks a.kt a.w a.poles.now a.f.ca a.f.cb a.e.now c.if-moves.true curl.value c.term_of.ensures c.electric_value.ensures (lone_set _ _ (omega (arith, c.requires)) refl) curl.both
+
+pub returns-else-moves : goal.returns-else-moves
+returns-else-moves c =
+    let a = c.args in
+    walled_off a.g a.h.now a.mem.now a.cell a.ds a.dt a.moves a.ks a.kt a.w a.poles.now a.f.ca a.f.cb a.e.now c.if-moves.false (lone_set _ _ (omega (arith, c.requires)) refl)

@@ -1,0 +1,28 @@
+use Rattle.fdtd.proofs.Fits.{count_for, fit_for, laid_for}
+use Prim.Native.Nat.{◌*◌}
+use native.Mathlib.Omega.{arith}
+use Rattle.electric.proofs.Polarized.{dp_room, held_for}
+use Rattle.electric.proofs.Steps.{electric_is, psi_is}
+use Rattle.std.proofs.Common.{rules}
+use Rattle.electric.proofs.update_e_field.Goals as goal
+
+pub overflow_mul-w-4 : goal.overflow_mul-w-4
+overflow_mul-w-4 c =
+    let pre = c.requires in
+    let r = c.args.r in omega (arith, pre.sound, pre.poles_len, dp_room r.pole_slots (r.nx * r.ny * r.nz) _ pre.poles_len)
+
+pub step_along-requires : goal.step_along-requires
+step_along-requires c =
+    let turn-of = c.turn_of-g in
+    let a = c.args in
+    let pre = c.requires in
+    let n = count_for a.r 0 _ turn-of.ensures in
+    record { fit = fit_for a.r 0 (omega arith) pre.sound _ _ _ _ pre.h_len.0 pre.psi_e_len.1 pre.psi_e_len.0 pre.h_len.2 turn-of.ensures; laid = laid_for a.r 0 (omega arith) pre.sound turn-of.ensures; dp_room = held_for a.r _ pre.poles_len turn-of.ensures; count_in_bounds = omega (arith, n, pre.h_len.1) }
+
+pub returns : goal.returns
+returns c =
+    let turn-of = c.turn_of-g in
+    let step-along = c.step_along in
+    let a = c.args in
+    let pre = c.requires in
+    record { e_after = electric_is a.eps0 a.r _ _ _ _ _ _ _ _ pre.h_len.2 pre.psi_e_len.0 _ turn-of.ensures step-along.ensures; psi_e_after = psi_is a.eps0 a.r _ a.media.now _ a.poles.now _ _ _ _ pre.h_len.2 pre.psi_e_len.0 _ turn-of.ensures step-along.ensures }

@@ -1,0 +1,7 @@
+use Rattle.fdtd.specs.Inner.Rows.{k_of}
+use Rattle.std.proofs.Common.{rules}
+use Rattle.fdtd.proofs.rows.kinv_at.Goals as goal
+
+pub returns : goal.returns
+unfolding k_of
+returns c = rw (c.pick.ensures, c.at.ensures)

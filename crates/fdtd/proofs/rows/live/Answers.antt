@@ -1,0 +1,35 @@
+use mathlib.Core.Path.{◌∙◌, ap}
+use Prim.Native.Nat.{◌+◌, ◌-◌, ◌≤◌}
+use native.Mathlib.Nat.{le_refl}
+use native.Mathlib.Omega.{arith}
+use lib.ListN.{get_or}
+use lib.Ieee.{nan}
+use Rattle.cpml.specs.declared.Advanced.{Advanced}
+use Rattle.fdtd.specs.Yee.{mem_next, layered}
+use Rattle.fdtd.specs.Inner.Rows.{k_of}
+use Rattle.fdtd.specs.Inner.Span.{Span}
+use Rattle.fdtd.proofs.Cellwise.{live_law, mem_law}
+use Rattle.fdtd.proofs.Spans.{span_start, span_step, span_end}
+use Rattle.std.proofs.Common.{rules}
+use Rattle.fdtd.proofs.rows.live.Goals as goal
+
+pub loop-i-init : goal.loop-i-init
+loop-i-init c = (omega arith, omega arith, span_start _ _ _ _, span_start _ _ _ _)
+
+pub loop-i-preserved : goal.loop-i-preserved
+loop-i-preserved c =
+    let l = c.loop-i in
+    let a = c.args in
+    let k = c.coef_at-k.ensures in
+    let moved = c.advance-moved.ensures in
+    let d = c.at-d.ensures ∙ l.invariant.2.under (a.o + l.i) (omega (arith, c)) in
+    let m = c.at.ensures ∙ l.invariant.3.over (a.s.mem + l.i) (le_refl (a.s.mem + l.i)) in
+    let u = c.at-in-loop-i.ensures ∙ l.invariant.2.over (1024 + l.i) (le_refl (1024 + l.i)) in (
+      omega arith,
+      omega (arith, c),
+      span_step _ _ _ _ _ _ _ l.invariant.2 (omega (arith, c)) (omega (arith, c)) (live_law a.second c.join.ensures u (ap (λ (x : Advanced). x.answer) moved) c.stretch.ensures k m d),
+      span_step _ _ _ _ _ _ _ l.invariant.3 (omega (arith, c)) (omega (arith, c)) (mem_law (ap (λ (x : Advanced). x.memory) moved) k m d),
+    )
+
+pub returns : goal.returns
+returns c = record { span = span_end _ _ _ _ c.loop-i.invariant.2 (omega arith); span_2 = span_end _ _ _ _ c.loop-i.invariant.3 (omega arith) }

@@ -1,0 +1,19 @@
+use mathlib.Core.Path.{◌∙◌, ap}
+use Prim.Native.Nat.{◌+◌, ◌-◌, ◌≤◌}
+use native.Mathlib.Nat.{le_refl}
+use native.Mathlib.Omega.{arith}
+use lib.ListN.{get_or}
+use lib.Ieee.{nan}
+use Rattle.cpml.specs.declared.Advanced.{Advanced}
+use Rattle.fdtd.specs.Yee.{mem_next, layered}
+use Rattle.fdtd.specs.Inner.Rows.{k_of}
+use Rattle.fdtd.specs.Inner.Span.{Span}
+use Rattle.fdtd.proofs.Cellwise.{live_law, mem_law}
+use Rattle.fdtd.proofs.Spans.{span_start, span_step, span_end}
+use Rattle.fdtd.proofs.rows.live.Given as goal
+
+abbrev pub invariant-loop-i : goal.invariant-loop-i
+invariant-loop-i l = (l.a ≤ l.i) × (l.i ≤ l.z) × Span (λ k. layered l.second (k_of l.s l.tab k) (get_or l.initial.mem (l.p + k) nan) (get_or l.initial.scr (l.o + k) nan) (get_or l.initial.scr (1024 + k) nan)) l.initial.scr 1024 l.a l.i l.scr × Span (λ k. mem_next (k_of l.s l.tab k) (get_or l.initial.mem (l.p + k) nan) (get_or l.initial.scr (l.o + k) nan)) l.initial.mem l.p l.a l.i l.mem
+
+abbrev pub decreases-loop-i : goal.decreases-loop-i
+decreases-loop-i l = l.z - l.i

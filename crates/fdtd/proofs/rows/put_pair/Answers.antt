@@ -1,0 +1,9 @@
+use mathlib.Core.Path.{refl}
+use native.Mathlib.Omega.{arith}
+use lib.ListN.{length-set}
+use Rattle.fdtd.proofs.Trios.{put_law}
+use Rattle.std.proofs.Common.{rules}
+use Rattle.fdtd.proofs.rows.put_pair.Goals as goal
+
+pub returns : goal.returns
+returns c = put_law _ _ _ _ _ (omega arith) (omega arith) refl

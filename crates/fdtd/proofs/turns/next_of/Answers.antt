@@ -1,0 +1,10 @@
+use native.Mathlib.Omega.{arith}
+use borrow.Author.Tests.{lt-ltb, le-ltb}
+use Rattle.std.proofs.Common.{rules}
+use Rattle.fdtd.proofs.turns.next_of.Goals as goal
+
+pub returns-then-p-n : goal.returns-then-p-n
+returns-then-p-n c = (simp (lt-ltb _ _ c.if-p-n.true), omega arith)
+
+pub returns-else-p-n : goal.returns-else-p-n
+returns-else-p-n c = (simp (le-ltb _ _ c.if-p-n.false), omega arith)

@@ -1,0 +1,101 @@
+use mathlib.Core.Path.{refl, ◌∙◌, sym, ap}
+use Prim.Native.Nat.{◌+◌, zero-le}
+use native.Mathlib.Nat.{le_refl}
+use native.Mathlib.Omega.{arith}
+use Rattle.fdtd.specs.declared.rows.Side.{Side}
+use Rattle.fdtd.specs.Axes.{has_next}
+use Rattle.magnetic.proofs.Slopes.{across_slope}
+use Rattle.fdtd.proofs.Stands.{stands_across, calm_across, room_across, lower, mem_apart, thrice, row_fits, row_le}
+use Rattle.magnetic.proofs.Component.{idle, moved, and_true, and_left, and_right}
+use Rattle.std.proofs.Common.{rules}
+use Rattle.magnetic.proofs.comp_r.Goals as goal
+
+pub overflow_add-g : goal.overflow_add-g
+overflow_add-g c = omega (arith, c)
+
+pub overflow_add-g-then-has_next-2 : goal.overflow_add-g-then-has_next-2
+overflow_add-g-then-has_next-2 c = omega (arith, c)
+
+pub overflow_add-g-then-has_next-2-2 : goal.overflow_add-g-then-has_next-2-2
+overflow_add-g-then-has_next-2-2 c = omega (arith, c)
+
+pub across-b-requires : goal.across-b-requires
+across-b-requires c = (omega (arith, c), omega (arith, c))
+
+pub overflow_add-g-then-has_next-2-3 : goal.overflow_add-g-then-has_next-2-3
+overflow_add-g-then-has_next-2-3 c = omega (arith, c)
+
+pub overflow_add-g-then-has_next-2-4 : goal.overflow_add-g-then-has_next-2-4
+overflow_add-g-then-has_next-2-4 c = omega (arith, c)
+
+pub overflow_add-g-then-has_next-2-5 : goal.overflow_add-g-then-has_next-2-5
+overflow_add-g-then-has_next-2-5 c = omega (arith, c)
+
+pub overflow_add-g-then-has_next-2-6 : goal.overflow_add-g-then-has_next-2-6
+overflow_add-g-then-has_next-2-6 c = omega (arith, c)
+
+pub across-c-requires : goal.across-c-requires
+across-c-requires c = (omega (arith, c), omega (arith, c))
+
+pub overflow_add-g-then-has_next-2-7 : goal.overflow_add-g-then-has_next-2-7
+overflow_add-g-then-has_next-2-7 c = omega (arith, c)
+
+pub row-requires : goal.row-requires
+row-requires c =
+    let pre = c.requires in
+    let across = c.across-b in
+    let across2 = c.across-c in
+    let a = c.args in
+    let g = a.g in
+    let p = a.p in
+    let f = pre.fit in
+    let spot = pre.n_bound in record { le_n = (f.some, f.small, le_refl g.r.n); n_in_bounds = (row_fits g.r.at p.q g.r.n g.count _ f.hr spot.0, pre.s_lt_n.2); side_room = (
+            room_across g.s _ _ _ _ _ _ _ across.ensures (row_fits g.t.at p.q g.r.n g.count _ f.et spot.0)
+                (row_fits g.t.at p.bs g.r.n g.count _ f.et spot.1)
+                (thrice g.r.tab g.r.n _ _ f.tr (le_refl g.r.n)) (row_fits g.r.mem p.q g.r.n g.count _ (lower g.r.mem g.count _ f.mr) spot.0),
+            room_across g.t _ _ _ _ _ _ _ across2.ensures (row_fits g.s.at p.q g.r.n g.count _ f.es spot.0)
+                (row_fits g.s.at p.bt g.r.n g.count _ f.es spot.2)
+                (thrice g.r.tab g.r.n _ _ f.tr (le_refl g.r.n)) (row_fits (g.r.mem + g.count) p.q g.r.n g.count _ f.mr spot.0),
+          ); calm = (calm_across g.s _ _ _ _ _ _ _ across.ensures zero-le, calm_across g.t _ _ _ _ _ _ _ across2.ensures zero-le); n_bound = mem_apart g.r.mem p.q g.r.n g.count _ _ (ap (λ (s : Side). s.mem) across.ensures) (ap (λ (s : Side). s.mem) across2.ensures) spot.0 }
+
+pub returns-then-has_next-2 : goal.returns-then-has_next-2
+returns-then-has_next-2 c =
+    let pre = c.requires in
+    let has_next_lem = c.has_next in
+    let if1 = c.if-has_next in
+    let has-next2 = c.has_next-then-has_next in
+    let if2 = c.if-has_next-2 in
+    let across = c.across-b in
+    let across2 = c.across-c in
+    let row = c.row in
+    let a = c.args in
+    let g = a.g in
+    let p = a.p in
+    let m = moved g.r g.s g.t g.count a.e.now a.tab.now a.mem.now a.scr.now a.h.now p.q g.r.n
+    (λ i. p.s) (λ i. p.t) (λ i. p.bs + i) (λ i. p.bt + i) _ _ g.r.n _ _
+    (le_refl g.r.n) (row_le p.q g.r.n _ pre.n_bound.0)
+    (λ i.
+    stands_across g.s g.t _ _ _ p.q i _ _ _ _ _ g.r.mem across.ensures
+    (across_slope g.s g.t _ a.tab.now _ p.q i p.s 0 _ p.bs _ across.ensures))
+    (λ i.
+    stands_across g.t g.s _ _ _ p.q i _ _ _ _ _ (g.r.mem + g.count) across2.ensures
+    (across_slope g.t g.s _ a.tab.now _ p.q i p.t 0 _ p.bt _ across2.ensures))
+    (λ i l. and_true (has_next g.s p.s) (has_next g.t p.t) (sym has_next_lem.ensures ∙ if1.true) (sym has-next2.ensures ∙ if2.true))
+    (λ i u l. absurd (omega arith)) row.ensures.span row.ensures.two in
+    record { span = m.0; two = m.1; top = row.ensures.top }
+
+pub returns-else-has_next-2 : goal.returns-else-has_next-2
+returns-else-has_next-2 c = let a = c.args in
+    let g = a.g in
+    let p = a.p in
+    let m = idle g.r g.s g.t g.count a.e.now a.tab.now a.mem.now a.scr.now a.h.now p.q g.r.n
+    (λ i. p.s) (λ i. p.t) (λ i. p.bs + i) (λ i. p.bt + i) (λ i. and_right (has_next g.s p.s) (has_next g.t p.t) (sym c.has_next-then-has_next.ensures ∙ c.if-has_next-2.false)) in
+    record { span = m.0; two = m.1; top = record { len = refl; over = λ q l. refl } }
+
+pub returns-else-has_next : goal.returns-else-has_next
+returns-else-has_next c = let a = c.args in
+    let g = a.g in
+    let p = a.p in
+    let m = idle g.r g.s g.t g.count a.e.now a.tab.now a.mem.now a.scr.now a.h.now p.q g.r.n
+    (λ i. p.s) (λ i. p.t) (λ i. p.bs + i) (λ i. p.bt + i) (λ i. and_left (has_next g.s p.s) (has_next g.t p.t) (sym c.has_next.ensures ∙ c.if-has_next.false)) in
+    record { span = m.0; two = m.1; top = record { len = refl; over = λ q l. refl } }

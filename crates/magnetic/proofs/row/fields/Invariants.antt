@@ -1,0 +1,16 @@
+use mathlib.Core.Path.{◌∙◌}
+use Prim.Native.Nat.{◌+◌, ◌-◌, ◌≤◌}
+use native.Mathlib.Nat.{le_refl}
+use native.Mathlib.Omega.{arith}
+use lib.ListN.{get_or}
+use lib.Ieee.{nan}
+use Rattle.root.specs.Rounded.{◌⊖◌, ◌⊗◌}
+use Rattle.fdtd.specs.Inner.Span.{Span}
+use Rattle.fdtd.proofs.Spans.{span_start, span_step, span_end}
+use Rattle.magnetic.proofs.row.fields.Given as goal
+
+abbrev pub invariant-loop-i : goal.invariant-loop-i
+invariant-loop-i l = (l.i ≤ l.m) × Span (λ k. get_or l.initial.h (l.q + k) nan ⊖ get_or l.scr (1536 + k) nan ⊗ get_or l.scr (1024 + k) nan) l.initial.h l.q 0 l.i l.h
+
+abbrev pub decreases-loop-i : goal.decreases-loop-i
+decreases-loop-i l = l.m - l.i

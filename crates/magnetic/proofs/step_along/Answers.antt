@@ -1,0 +1,16 @@
+use mathlib.Core.Path.{refl}
+use Prim.Native.Nat.{zero-le}
+use Rattle.magnetic.proofs.Slopes.{ready_of}
+use Rattle.std.proofs.Common.{rules}
+use Rattle.magnetic.proofs.step_along.Goals as goal
+
+pub sweep_cells-requires : goal.sweep_cells-requires
+sweep_cells-requires c = c.requires
+
+pub find_lull-run-requires : goal.find_lull-run-requires
+find_lull-run-requires c = (c.requires.fit.tr, zero-le, c.reach-end.ensures.1)
+
+pub sweep-requires : goal.sweep-requires
+sweep-requires c =
+    let pre = c.requires in
+    record { fit = pre.fit; laid = pre.laid; next_run = ready_of c.find_lull-run.ensures c.reach-end.ensures.0; scr_len = (refl, pre.count_in_bounds) }

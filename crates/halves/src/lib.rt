@@ -1,4 +1,6 @@
 // The two halves of a step: each field's half step with the wave's part of it, and before E's the polarizations.
+#![tactic(auto)]
+
 ghost use Rattle.std.specs.Prelude.{◌≡◌, ◌+◌, ◌*◌, length};
 ghost use Rattle.grid.specs.Stores.{cells};
 ghost use Rattle.ade.specs.Polarization.{delta_p};

@@ -1,4 +1,6 @@
 // The first fault of a save's bytes, record by record.
+#![tactic(auto)]
+
 ghost use Rattle.std.specs.Prelude.{◌≡◌, ◌∷◌, ◌+◌, ◌*◌, ◌≤◌, ◌<◌, length, drop, get_or};
 ghost use Rattle.heads.specs.Numbers.{ml_length, ml_fine};
 ghost use Rattle.heads.specs.Payloads.{head_by, count_of, entry_at};

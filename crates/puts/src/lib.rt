@@ -1,4 +1,6 @@
 // The eleven records, each written straight to its place.
+#![tactic(auto)]
+
 ghost use Rattle.std.specs.Prelude.{◌≡◌, cond, [], ◌∷◌, ◌+◌, ◌*◌, ◌≤◌, length};
 ghost use Rattle.codec.specs.Lists.{put};
 ghost use Rattle.codec.specs.Bytes.{floats_bytes, ids_bytes};

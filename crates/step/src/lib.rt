@@ -1,4 +1,6 @@
 // One step of a study: `Tfsf::step` with a region, `update_h_field` and then `update_e_field` without.
+#![tactic(auto)]
+
 ghost use Rattle.std.specs.Prelude.{◌≡◌, ◌<◌};
 ghost use Rattle.grid.specs.Edited.{with_clock};
 ghost use Rattle.grid.specs.Stores.{stores, outcome};

@@ -1,6 +1,5 @@
 use native.Mathlib.Omega.{arith}
 use Rattle.frames.proofs.Turns.{taken_past, taken_bad, taken_well, taken_room}
-use Rattle.std.proofs.Common.{rules}
 use Rattle.frames.proofs.frame_at.Goals as goal
 
 pub returns-then-src-at : goal.returns-then-src-at

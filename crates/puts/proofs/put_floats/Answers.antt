@@ -1,0 +1,11 @@
+use native.Mathlib.Omega.{arith}
+use mathlib.Core.Path.{sym}
+use Rattle.format.proofs.Written.{floats_long}
+use Rattle.puts.proofs.Placed.{wrote_one}
+use Rattle.std.proofs.Common.{rules}
+use Rattle.puts.proofs.put_floats.Goals as goal
+
+pub returns : goal.returns
+returns c =
+    let long = floats_long c.args.xs.now in
+    (search rules, wrote_one _ _ _ _ _ _ _ c.put_frame.ensures (sym long) c.put_f64s.ensures (omega (arith, long, c.requires.0)))

@@ -1,4 +1,6 @@
 // The step with the run clock lent to it and moved on there. Nothing is computed here: `step::step`, which takes the clock by value, does the work.
+#![tactic(auto)]
+
 ghost use Rattle.std.specs.Prelude.{◌≡◌};
 ghost use Rattle.grid.specs.Edited.{with_clock};
 ghost use Rattle.grid.specs.Stores.{stores, outcome};

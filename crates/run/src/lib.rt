@@ -1,4 +1,6 @@
 // Many steps of a study in one call.
+#![tactic(auto)]
+
 ghost use Rattle.std.specs.Prelude.{◌≡◌, ◌+◌, ◌≤◌, length};
 ghost use Rattle.grid.specs.Edited.{with_clock};
 ghost use Rattle.grid.specs.Stores.{stores, outcome};

@@ -1,4 +1,6 @@
 // The save: eleven records, written (`puts`), judged (`judge`) and read.
+#![tactic(auto)]
+
 pub mod gets;
 
 ghost use Rattle.std.specs.Prelude.{◌≡◌};

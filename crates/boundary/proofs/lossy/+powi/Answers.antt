@@ -2,7 +2,6 @@ use Rattle.std.proofs.Common.{sym, ap, ◌∙◌}
 use Rattle.root.specs.Rounded.{◌⊗◌}
 use Rattle.boundary.specs.Lossy.{power}
 use Rattle.boundary.proofs.Power.{power_0, power_even, power_odd}
-use Rattle.boundary.specs.Lossy.{power}
 use Rattle.boundary.proofs.lossy.+powi.Goals as goal
 
 pub returns-then-n-eq0 : goal.returns-then-n-eq0

@@ -1,2 +1,0 @@
--- What the walks cite.
-pub mod Local

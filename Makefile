@@ -6,8 +6,6 @@ SHELL := /bin/bash -o pipefail
 # What a failed rule has left is not taken for its result.
 .DELETE_ON_ERROR:
 .PHONY: curve man test format prove kit setup engine command compare host compare-long cluster-test bench by-turns validate
-# Checks at a time: `rt` waits for all of a group before it begins the next, so that on two cores four are quicker than two. They take up to 10 GB together.
-export RT_JOBS ?= 4
 # Another library than this tree's is for `by-turns` alone: no test is to be run on it unawares.
 unexport CICHOWIEJ_LIBRARY
 
@@ -30,12 +28,22 @@ curve:
 setup:
 	@host/setup
 
-# The proved library, made anew when a file of the crates has changed or is gone: `api` is proved once more for it. What the prover says goes into a file; it is shown where something is not proved.
+# What proofs and programs are made from; a folder stands for what is gone from it. Each crate's out/ holds what was made.
+SOURCES := $(shell find crates -mindepth 2 -name out -prune -o -print) crates.txt RATTLE-KIT
+
+# The proved library, made anew when a file of the crates has changed or is gone: the crate api_c, whose exports are the C functions, is proved for it with all
+# that it stands on, as far as earlier checks have not done so. What the prover says goes into a file; it is shown where something is not proved.
 ENGINE := target/staticlib/libapi.a
 engine: $(ENGINE)
-$(ENGINE): $(shell find crates crates.txt RATTLE-KIT)
-	@mkdir -p target && if ! rt staticlib api > target/engine.txt 2>&1; then tail -n 40 target/engine.txt; exit 1; fi
-	@touch $@
+$(ENGINE): $(SOURCES)
+	@mkdir -p $(@D) && if ! rt lib api_c > target/engine.txt 2>&1; then tail -n 40 target/engine.txt; exit 1; fi
+	@cp crates/api_c/out/libapi_c.a $@
+
+# The program that lists a save, likewise.
+LISTING := target/bin/listing
+$(LISTING): $(SOURCES)
+	@mkdir -p $(@D) && if ! rt run listing < /dev/null > target/listing.txt 2>&1; then tail -n 40 target/listing.txt; exit 1; fi
+	@cp crates/listing/out/listing $@
 
 command: engine
 	@host/cargo build --release --quiet -p cichowiej-command
@@ -44,28 +52,31 @@ command: engine
 man: setup engine command
 	@mkdir -p target/man && target/host/release/cichowiej man > target/man/cichowiej.1 && echo "written: target/man/cichowiej.1"
 
-# The proof comes first, since it starts from nothing and leaves the proved crates to the comparison.
+# The proof comes first; it leaves the program that lists a save to the comparison. A must-fail edit that `rt ci` calls bad shows nothing, and fails here.
 # After it come a line that says whether there was an original to compare with, and one where the proof kit is another than the one in RATTLE-KIT.
-test: format setup
+test:
 	@said=$$(mktemp); rt ci 2>&1 | tee $$said; proved=$$?; \
-	if [ $$proved = 0 ] && ! $(MAKE) --no-print-directory compare host; then $(MAKE) --no-print-directory kit; exit 1; fi; \
+	if [ $$proved = 0 ] && ! grep -q '^rt: ok' $$said; then echo "rt ci passed, and has no line 'rt: ok'"; proved=1; fi; \
+	if grep -qE '^rt: ok.*, [1-9][0-9]* bad' $$said; then echo "bad must-fail edits: see above"; proved=1; fi; \
+	if [ $$proved = 0 ] && ! { mkdir -p target/bin && cp crates/listing/out/listing $(LISTING) && $(MAKE) --no-print-directory setup compare host; }; \
+	then $(MAKE) --no-print-directory kit; exit 1; fi; \
 	$(MAKE) --no-print-directory kit; tail -n 1 $$said; rm -f $$said; exit $$proved
 
 # Another kit may prove it as well: it is named, and nothing fails.
 kit:
 	@rt version | cmp -s - RATTLE-KIT || echo "this is another proof kit than the one in RATTLE-KIT: $$(rt version)"
 
+# Lays out the crates' files. `rt ci` refuses one that is not laid out.
 format:
-	rt fmt --check
+	@for crate in crates/*/; do (cd $$crate && rt fmt) || exit 1; done
 
-# Every crate proved from nothing, every must-fail edit tried, every program run.
+# Every crate proved, every must-fail edit tried, every program run. What an earlier run on this machine passed of the same files is not done again.
 prove:
 	rt ci
 
 # The proved library, linked into Rust and C, against the header, the processor's square root, the original Rust and a second reading of the save; and the
 # program that lists a save.
-compare: engine
-	rt check listing
+compare: engine $(LISTING)
 	cd oracle && cargo test --release
 
 # The library and the command for people, on the proved library; and the layer's tables and the validation's slabs against the original.
@@ -85,11 +96,11 @@ bench: setup engine
 	cd oracle && cargo run --release -p bench
 	host/cargo bench --quiet -p cichowiej-command --bench stepping
 
-# The largest save by the library of another checkout and by this one's, by turns, by one bench: make by-turns BEFORE=FOLDER. There `rt staticlib api`
+# The largest save by the library of another checkout and by this one's, by turns, by one bench: make by-turns BEFORE=FOLDER. There `make engine`
 # has been run, and the C functions are this tree's.
 TURNS := 5
 by-turns:
-	@test -f "$(BEFORE)/target/staticlib/libapi.a" || { echo "make by-turns BEFORE=FOLDER, a checkout in which 'rt staticlib api' has been run"; exit 2; }
+	@test -f "$(BEFORE)/target/staticlib/libapi.a" || { echo "make by-turns BEFORE=FOLDER, a checkout in which 'make engine' has been run"; exit 2; }
 	@cmp -s "$(BEFORE)/include/cichowiej.rs" include/cichowiej.rs \
 	  || { echo "$(BEFORE) has other C functions than this tree (include/cichowiej.rs): run 'make bench' in each"; exit 2; }
 	@$(MAKE) --no-print-directory engine

@@ -1,4 +1,4 @@
-//! Links the engine's static library, which `rt staticlib api` proves and writes, and tells which one it is.
+//! Links the engine's static library, which `make engine` proves and writes, and tells which one it is.
 
 use sha2::{Digest, Sha256};
 use std::path::{Path, PathBuf};

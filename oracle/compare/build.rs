@@ -8,7 +8,7 @@ fn main() {
     let library = folder.join("libapi.a");
     assert!(
         library.exists(),
-        "{} is not there: run `rt staticlib api` first",
+        "{} is not there: run `make engine` at the repository's top first",
         library.display()
     );
     println!("cargo::rerun-if-changed={}", library.display());

@@ -13,22 +13,19 @@ use root::Spacings;
 
 // ---- constants of vacuum
 
-#[unsafe(no_mangle)]
-pub extern "C" fn cichowiej_eps0() -> f64
+pub fn cichowiej_eps0() -> f64
     ensures { result ≡ vacuum.eps0 }
 {
     root::vacuum::eps0()
 }
 
-#[unsafe(no_mangle)]
-pub extern "C" fn cichowiej_mu0() -> f64
+pub fn cichowiej_mu0() -> f64
     ensures { result ≡ vacuum.mu0 }
 {
     root::vacuum::mu0()
 }
 
-#[unsafe(no_mangle)]
-pub extern "C" fn cichowiej_c0() -> f64
+pub fn cichowiej_c0() -> f64
     ensures { result ≡ vacuum.c0 }
 {
     root::vacuum::c0()
@@ -36,22 +33,19 @@ pub extern "C" fn cichowiej_c0() -> f64
 
 // the same by CODATA 2018
 
-#[unsafe(no_mangle)]
-pub extern "C" fn cichowiej_eps0_2019() -> f64
+pub fn cichowiej_eps0_2019() -> f64
     ensures { result ≡ vacuum.eps02019 }
 {
     root::vacuum::eps0_2019()
 }
 
-#[unsafe(no_mangle)]
-pub extern "C" fn cichowiej_mu0_2019() -> f64
+pub fn cichowiej_mu0_2019() -> f64
     ensures { result ≡ vacuum.mu02019 }
 {
     root::vacuum::mu0_2019()
 }
 
-#[unsafe(no_mangle)]
-pub extern "C" fn cichowiej_c0_2019() -> f64
+pub fn cichowiej_c0_2019() -> f64
     ensures { result ≡ vacuum.c02019 }
 {
     root::vacuum::c0_2019()
@@ -59,29 +53,25 @@ pub extern "C" fn cichowiej_c0_2019() -> f64
 
 // ---- the square root and the Courant numbers
 
-#[unsafe(no_mangle)]
-pub extern "C" fn cichowiej_root(x: f64) -> f64
+pub fn cichowiej_root(x: f64) -> f64
     ensures { Rooted x result }
 {
     root::root(x)
 }
 
-#[unsafe(no_mangle)]
-pub extern "C" fn cichowiej_cfl_number(c0: f64, dx: f64, dy: f64, dz: f64, dt: f64) -> f64
+pub fn cichowiej_cfl_number(c0: f64, dx: f64, dy: f64, dz: f64, dt: f64) -> f64
     ensures { result ≡ courant_number c0 (record { dx = dx; dy = dy; dz = dz; dt = dt }) }
 {
     root::cfl_number(c0, Spacings { dx, dy, dz, dt })
 }
 
-#[unsafe(no_mangle)]
-pub extern "C" fn cichowiej_max_stable_dt(c0: f64, dx: f64, dy: f64, dz: f64, dt: f64) -> f64
+pub fn cichowiej_max_stable_dt(c0: f64, dx: f64, dy: f64, dz: f64, dt: f64) -> f64
     ensures { result ≡ courant_limit c0 (record { dx = dx; dy = dy; dz = dz; dt = dt }) }
 {
     root::max_stable_dt(c0, Spacings { dx, dy, dz, dt })
 }
 
-#[unsafe(no_mangle)]
-pub extern "C" fn cichowiej_is_stable(c0: f64, dx: f64, dy: f64, dz: f64, dt: f64) -> bool
+pub fn cichowiej_is_stable(c0: f64, dx: f64, dy: f64, dz: f64, dt: f64) -> bool
     ensures { result ≡ stable c0 (record { dx = dx; dy = dy; dz = dz; dt = dt }) }
 {
     root::is_stable(c0, Spacings { dx, dy, dz, dt })
@@ -90,8 +80,7 @@ pub extern "C" fn cichowiej_is_stable(c0: f64, dx: f64, dy: f64, dz: f64, dt: f6
 // ---- the coefficients of a pole
 
 // Writes a1, a2, a3 into the room; a refusal writes nothing.
-#[unsafe(no_mangle)]
-pub extern "C" fn cichowiej_ade_coeffs(
+pub fn cichowiej_ade_coeffs(
     tag: u32,
     first: f64,
     second: f64,
@@ -107,24 +96,21 @@ pub extern "C" fn cichowiej_ade_coeffs(
 
 // ---- the lossy edge's conductivity
 
-#[unsafe(no_mangle)]
-pub extern "C" fn cichowiej_powi(u: f64, n: usize) -> f64
+pub fn cichowiej_powi(u: f64, n: usize) -> f64
     ensures { result ≡ power u n }
 {
     lossy::powi(u, n)
 }
 
 // At d cells from a wall whose layer is t cells thick.
-#[unsafe(no_mangle)]
-pub extern "C" fn cichowiej_wall_sigma(t: usize, order: usize, sigma_max: f64, d: usize) -> f64
+pub fn cichowiej_wall_sigma(t: usize, order: usize, sigma_max: f64, d: usize) -> f64
     ensures { result ≡ wall_sigma t order sigma_max d }
 {
     lossy::wall_sigma(t, order, sigma_max, d)
 }
 
 // s, unless v is larger.
-#[unsafe(no_mangle)]
-pub extern "C" fn cichowiej_stronger(s: f64, v: f64) -> f64
+pub fn cichowiej_stronger(s: f64, v: f64) -> f64
     ensures { result ≡ stronger s v }
 {
     lossy::stronger_of(s, v)

@@ -1,4 +1,6 @@
-// The engine's calls as C functions. include/cichowiej.h declares them.
+// The engine's calls, each under the name of the C function that api_c makes of it. include/cichowiej.h declares those.
+#![tactic(auto)]
+
 pub mod arithmetic;
 pub mod library;
 pub mod memory;

@@ -7,8 +7,7 @@ ghost use Rattle.study.specs.World.{put_box, assign_halfspace, add_material, bui
 ghost use Rattle.study.specs.Calls.{Silently, Numbering, put_placed, put_poles, placed_of};
 
 // What is put is three numbers or, where `library` is true, the material with this id; how many cells the box has goes into the room lent for it.
-#[unsafe(no_mangle)]
-pub extern "C" fn cichowiej_put_box(
+pub fn cichowiej_put_box(
     b: &mut [u8],
     i0: usize,
     i1: usize,
@@ -34,16 +33,14 @@ pub extern "C" fn cichowiej_put_box(
 }
 
 // The material is 125 bytes as in a block; its id goes into the room lent for it.
-#[unsafe(no_mangle)]
-pub extern "C" fn cichowiej_add_material(b: &mut [u8], material: &[u8], id: &mut [u32]) -> u32
+pub fn cichowiej_add_material(b: &mut [u8], material: &[u8], id: &mut [u32]) -> u32
     ensures id_after { sent result b.new id.new ≡ on_block (λ r. answering (add_bytes_call material.now r) id.old) b.old (answered 0 id.old) }
     ensures honest { Numbering b.old b.new (λ s. Unit {0}) (λ s. s) (doing (add_material material.now (length id.old))) result id.old id.new }
 {
     on_block::library::add_material(b, material, id)
 }
 
-#[unsafe(no_mangle)]
-pub extern "C" fn cichowiej_assign_material_halfspace_z(
+pub fn cichowiej_assign_material_halfspace_z(
     b: &mut [u8],
     id: u32,
     k0: usize,
@@ -56,8 +53,7 @@ pub extern "C" fn cichowiej_assign_material_halfspace_z(
     on_block::library::assign_material_halfspace_z(b, id, k0, media, ids)
 }
 
-#[unsafe(no_mangle)]
-pub extern "C" fn cichowiej_build_dispersion(b: &mut [u8], poles: &mut [f64]) -> u32
+pub fn cichowiej_build_dispersion(b: &mut [u8], poles: &mut [f64]) -> u32
     ensures poles_after { sent result b.new poles.new ≡ on_block (λ r. build_call r poles.old) b.old poles.old }
     ensures honest { Silently b.old b.new (λ s. s.poles ≡ poles.old) (put_poles poles.new) (doing build_dispersion) result }
 {

@@ -8,8 +8,7 @@ ghost use Rattle.study.specs.History.{doing};
 ghost use Rattle.study.specs.World.{total_energy, plane_reading};
 ghost use Rattle.study.specs.Calls.{Reading};
 
-#[unsafe(no_mangle)]
-pub extern "C" fn cichowiej_total_energy(
+pub fn cichowiej_total_energy(
     b: &[u8],
     e: &[f64],
     h: &[f64],
@@ -22,14 +21,7 @@ pub extern "C" fn cichowiej_total_energy(
     read_block::total_energy(b, e, h, media, energy)
 }
 
-#[unsafe(no_mangle)]
-pub extern "C" fn cichowiej_plane_reading(
-    b: &[u8],
-    k: usize,
-    e: &[f64],
-    h: &[f64],
-    reading: &mut [f64],
-) -> u32
+pub fn cichowiej_plane_reading(b: &[u8], k: usize, e: &[f64], h: &[f64], reading: &mut [f64]) -> u32
     ensures reading_after { readout result reading.new ≡ read_block (λ r. answering (plane_call r k e.now h.now) reading.old) b.now (answered zero_f reading.old) }
     ensures honest { Reading b.now b.now (λ s. (s.electric ≡ e.now) × (s.magnetic ≡ h.now)) (doing (plane_reading k (length reading.old))) result reading.old reading.new }
 {

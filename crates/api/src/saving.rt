@@ -10,16 +10,14 @@ ghost use Rattle.study.specs.History.{doing, saving, rewinding};
 ghost use Rattle.study.specs.World.{ask_length, numbers};
 ghost use Rattle.study.specs.Calls.{Silently, Numbering, MadeOn, reply_of};
 
-#[unsafe(no_mangle)]
-pub extern "C" fn cichowiej_save_length(b: &[u8], length: &mut [usize]) -> u32
+pub fn cichowiej_save_length(b: &[u8], length: &mut [usize]) -> u32
     ensures length_after { readout result length.new ≡ read_block (λ r. answering (length_call r) length.old) b.now (answered 0 length.old) }
     ensures honest { Numbering b.now b.now (λ s. Unit {0}) (λ s. s) (doing (ask_length (long length.old))) result length.old length.new }
 {
     on_block::saving::save_length(b, length)
 }
 
-#[unsafe(no_mangle)]
-pub extern "C" fn cichowiej_save<'a>(
+pub fn cichowiej_save<'a>(
     b: &[u8],
     e: &[f64],
     h: &[f64],
@@ -38,8 +36,7 @@ pub extern "C" fn cichowiej_save<'a>(
     on_block::saving::save(b, e, h, media, psi_e, psi_h, tables, poles, aux, ids, out)
 }
 
-#[unsafe(no_mangle)]
-pub extern "C" fn cichowiej_rewind(
+pub fn cichowiej_rewind(
     b: &mut [u8],
     save: &[u8],
     e: &mut [f64],

@@ -9,8 +9,7 @@ ghost use Rattle.study.specs.History.{doing};
 ghost use Rattle.study.specs.World.{step, run};
 ghost use Rattle.study.specs.Calls.{Silently};
 
-#[unsafe(no_mangle)]
-pub extern "C" fn cichowiej_step(
+pub fn cichowiej_step(
     b: &mut [u8],
     sample: f64,
     e: &mut [f64],
@@ -31,8 +30,7 @@ pub extern "C" fn cichowiej_step(
     )
 }
 
-#[unsafe(no_mangle)]
-pub extern "C" fn cichowiej_run(
+pub fn cichowiej_run(
     b: &mut [u8],
     samples: &[f64],
     e: &mut [f64],

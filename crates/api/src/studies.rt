@@ -8,8 +8,7 @@ ghost use Rattle.study.specs.History.{doing, opening};
 ghost use Rattle.study.specs.World.{reset_fields};
 ghost use Rattle.study.specs.Calls.{Silently, put_reset, reset_of};
 
-#[unsafe(no_mangle)]
-pub extern "C" fn cichowiej_open(
+pub fn cichowiej_open(
     b: &mut [u8],
     nx: usize,
     ny: usize,
@@ -39,8 +38,7 @@ pub extern "C" fn cichowiej_open(
     )
 }
 
-#[unsafe(no_mangle)]
-pub extern "C" fn cichowiej_reset_fields(
+pub fn cichowiej_reset_fields(
     b: &mut [u8],
     e: &mut [f64],
     h: &mut [f64],

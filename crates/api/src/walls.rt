@@ -8,16 +8,14 @@ ghost use Rattle.study.specs.History.{doing};
 ghost use Rattle.study.specs.World.{set_periodic, walls_periodic, walls_conductor, walls_lossy, walls_cpml};
 ghost use Rattle.study.specs.Calls.{Silently, Numbering, put_layer, put_lossed, layer_of, lossed_of};
 
-#[unsafe(no_mangle)]
-pub extern "C" fn cichowiej_set_periodic(b: &mut [u8], x: bool, y: bool, z: bool) -> u32
+pub fn cichowiej_set_periodic(b: &mut [u8], x: bool, y: bool, z: bool) -> u32
     ensures tt_after { sent result b.new tt ≡ on_block (λ r. set_periodic_call r (x ∷ y ∷ z ∷ [])) b.old tt }
     ensures honest { Silently b.old b.new (λ s. Unit {0}) (λ s. s) (doing (set_periodic x y z)) result }
 {
     on_block::walls::set_periodic(b, x, y, z)
 }
 
-#[unsafe(no_mangle)]
-pub extern "C" fn cichowiej_set_boundary_periodic(
+pub fn cichowiej_set_boundary_periodic(
     b: &mut [u8],
     psi_e: &mut [f64],
     psi_h: &mut [f64],
@@ -29,8 +27,7 @@ pub extern "C" fn cichowiej_set_boundary_periodic(
     on_block::walls::set_boundary_periodic(b, psi_e, psi_h, tables)
 }
 
-#[unsafe(no_mangle)]
-pub extern "C" fn cichowiej_set_boundary_conductor(
+pub fn cichowiej_set_boundary_conductor(
     b: &mut [u8],
     psi_e: &mut [f64],
     psi_h: &mut [f64],
@@ -42,8 +39,7 @@ pub extern "C" fn cichowiej_set_boundary_conductor(
     on_block::walls::set_boundary_conductor(b, psi_e, psi_h, tables)
 }
 
-#[unsafe(no_mangle)]
-pub extern "C" fn cichowiej_set_boundary_lossy(
+pub fn cichowiej_set_boundary_lossy(
     b: &mut [u8],
     thickness: usize,
     order: usize,
@@ -60,8 +56,7 @@ pub extern "C" fn cichowiej_set_boundary_lossy(
 }
 
 // Which axes are active goes into the room lent for it: 1 x, 2 y, 4 z, added.
-#[unsafe(no_mangle)]
-pub extern "C" fn cichowiej_set_boundary_cpml(
+pub fn cichowiej_set_boundary_cpml(
     b: &mut [u8],
     x: bool,
     y: bool,

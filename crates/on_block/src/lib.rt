@@ -1,4 +1,6 @@
 // Each call on the record that a block holds. The C functions call these and promise more: that the made call is one of demand 3's machine.
+#![tactic(auto)]
+
 pub mod library;
 pub mod saving;
 pub mod steps;

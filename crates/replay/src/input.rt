@@ -3,6 +3,7 @@ ghost use Rattle.std.specs.Prelude.{◌+◌, ◌*◌, ◌≤◌, length};
 
 use codec::numbers::get_u32;
 use codec::stores;
+use std::io::Read;
 
 // The longest store: the poles of 32 cells with 4 slots, (6 * 4 + 3) * 32 numbers.
 pub const LONGEST: usize = 864;
@@ -23,14 +24,14 @@ pub struct Counts {
 }
 
 // Whether there was as much to read as b is long.
-pub fn read_bytes(b: &mut [u8]) -> bool {
-    io::read_full(libc::STDIN_FILENO, b) == b.len()
+pub fn read_bytes(rt: &HostRuntime, b: &mut [u8]) -> bool {
+    rt.stdin().read_exact(b).is_ok()
 }
 
 // How many studies are to come. A list without this number is one whose first study is missing.
-pub fn list_length() -> u32 {
+pub fn list_length(rt: &HostRuntime) -> u32 {
     let mut b = [0u8; 4];
-    if !read_bytes(&mut b) {
+    if !read_bytes(rt, &mut b) {
         return 1;
     }
     get_u32(&b, 0)
@@ -58,10 +59,10 @@ pub fn counts_of(b: &[u8; 40]) -> Counts {
 }
 
 // The first bytes of b.
-fn read_part(b: &mut [u8], size: usize) -> bool
+fn read_part(rt: &HostRuntime, b: &mut [u8], size: usize) -> bool
     requires { size ≤ length b.old }
 {
-    read_bytes(&mut b[0..size])
+    read_bytes(rt, &mut b[0..size])
 }
 
 fn floats_of(b: &[u8; 6912], xs: &mut [f64])
@@ -76,32 +77,32 @@ fn ids_of(b: &[u8; 6912], ns: &mut [u32])
     stores::get_u32s(b, 0, ns);
 }
 
-pub fn read_floats(xs: &mut [f64]) -> bool {
+pub fn read_floats(rt: &HostRuntime, xs: &mut [f64]) -> bool {
     let n = xs.len();
     if LONGEST < n {
         return false;
     }
     let mut b = [0u8; 6912];
-    if !read_part(&mut b, 8 * n) {
+    if !read_part(rt, &mut b, 8 * n) {
         return false;
     }
     floats_of(&b, xs);
     true
 }
 
-pub fn read_ids(ns: &mut [u32]) -> bool {
+pub fn read_ids(rt: &HostRuntime, ns: &mut [u32]) -> bool {
     let n = ns.len();
     if LONGEST < n {
         return false;
     }
     let mut b = [0u8; 6912];
-    if !read_part(&mut b, 4 * n) {
+    if !read_part(rt, &mut b, 4 * n) {
         return false;
     }
     ids_of(&b, ns);
     true
 }
 
-pub fn read_three(a: &mut [f64], b: &mut [f64], c: &mut [f64]) -> bool {
-    read_floats(a) & read_floats(b) & read_floats(c)
+pub fn read_three(rt: &HostRuntime, a: &mut [f64], b: &mut [f64], c: &mut [f64]) -> bool {
+    read_floats(rt, a) & read_floats(rt, b) & read_floats(rt, c)
 }

@@ -8,26 +8,30 @@
 // Doubles are eight bytes, every NaN 7FF8000000000000; ids are four. The steps are run, and every number and every byte of the block
 // compared with the answers. Of the numbers of a line, those that are compared are counted; what is apart are numbers and bytes of the block.
 // In each of a study's seven comparisons the last answer is then changed, and the line counts those that saw it.
+#![tactic(auto)]
+
 mod input;
 mod output;
 mod study;
 
-fn main() {
-    let count = input::list_length();
+use std::io;
+
+fn main(rt: HostRuntime) -> io::Result<()> {
+    let count = input::list_length(&rt);
     let mut at = 0u32;
     let mut numbers = 0u64;
     let mut apart = 0u64;
     let mut seen = 0u64;
     while at < count {
         at += 1u32;
-        let o = study::next();
-        output::say(at, o);
+        let o = study::next(&rt);
+        output::say(&rt, at, o)?;
         if !o.whole {
-            return;
+            return Ok(());
         }
         numbers = differ::plus(numbers, o.numbers);
         apart = differ::plus(apart, o.apart);
         seen = differ::plus(seen, o.seen);
     }
-    output::say_all(count, numbers, apart, seen);
+    output::say_all(&rt, count, numbers, apart, seen)
 }

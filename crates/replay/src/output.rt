@@ -1,54 +1,60 @@
 // What is written: a line for each study, and one for all.
 use super::study::Outcome;
+use std::io;
+use std::io::Write;
 
-fn text(s: &[u8]) {
-    io::write_all(libc::STDOUT_FILENO, s);
+fn text(rt: &HostRuntime, s: &[u8]) -> io::Result<()> {
+    rt.stdout().write_all(s)
 }
 
-fn number(n: u64) {
-    io::print_decimal(libc::STDOUT_FILENO, n);
+fn number(rt: &HostRuntime, n: u64) -> io::Result<()> {
+    print!(rt; "{n}")
 }
 
-fn say_counts(numbers: u64, apart: u64, seen: u64) {
-    number(numbers);
-    text(b" numbers, ");
-    number(apart);
-    text(b" apart, ");
-    number(seen);
-    text(b" changes seen\n");
+fn say_counts(rt: &HostRuntime, numbers: u64, apart: u64, seen: u64) -> io::Result<()> {
+    number(rt, numbers)?;
+    text(rt, b" numbers, ")?;
+    number(rt, apart)?;
+    text(rt, b" apart, ")?;
+    number(rt, seen)?;
+    text(rt, b" changes seen\n")
 }
 
-fn say_sizes(o: Outcome) {
-    number(o.nx as u64);
-    text(b" x ");
-    number(o.ny as u64);
-    text(b" x ");
-    number(o.nz as u64);
-    text(b", ");
-    number(o.steps as u64);
-    text(b" steps, ");
+fn say_sizes(rt: &HostRuntime, o: Outcome) -> io::Result<()> {
+    number(rt, o.nx as u64)?;
+    text(rt, b" x ")?;
+    number(rt, o.ny as u64)?;
+    text(rt, b" x ")?;
+    number(rt, o.nz as u64)?;
+    text(rt, b", ")?;
+    number(rt, o.steps as u64)?;
+    text(rt, b" steps, ")
 }
 
-pub fn say(at: u32, o: Outcome) {
-    text(b"study ");
-    number(at as u64);
+pub fn say(rt: &HostRuntime, at: u32, o: Outcome) -> io::Result<()> {
+    text(rt, b"study ")?;
+    number(rt, at as u64)?;
     if !o.whole {
-        text(b": no study\n");
-        return;
+        return text(rt, b": no study\n");
     }
     if o.refusal != 0 {
-        text(b": refused ");
-        number(o.refusal as u64);
-        text(b"\n");
-        return;
+        text(rt, b": refused ")?;
+        number(rt, o.refusal as u64)?;
+        return text(rt, b"\n");
     }
-    text(b": ");
-    say_sizes(o);
-    say_counts(o.numbers, o.apart, o.seen);
+    text(rt, b": ")?;
+    say_sizes(rt, o)?;
+    say_counts(rt, o.numbers, o.apart, o.seen)
 }
 
-pub fn say_all(count: u32, numbers: u64, apart: u64, seen: u64) {
-    number(count as u64);
-    text(b" studies, ");
-    say_counts(numbers, apart, seen);
+pub fn say_all(
+    rt: &HostRuntime,
+    count: u32,
+    numbers: u64,
+    apart: u64,
+    seen: u64,
+) -> io::Result<()> {
+    number(rt, count as u64)?;
+    text(rt, b" studies, ")?;
+    say_counts(rt, numbers, apart, seen)
 }

@@ -37,11 +37,11 @@ fn no_study() -> Outcome {
 }
 
 // Answers are read into b, and compared.
-fn see_into(xs: &[f64], b: &mut [f64]) -> Seen
+fn see_into(rt: &HostRuntime, xs: &[f64], b: &mut [f64]) -> Seen
     requires { length xs.now ≡ length b.old }
     ensures { result.numbers ≡ length xs.now }
 {
-    let whole = input::read_floats(b);
+    let whole = input::read_floats(rt, b);
     let c = differ::floats_compared(xs, b);
     Seen {
         whole,
@@ -52,7 +52,7 @@ fn see_into(xs: &[f64], b: &mut [f64]) -> Seen
 }
 
 // As many answers as there are numbers.
-fn see_floats(xs: &[f64]) -> Seen {
+fn see_floats(rt: &HostRuntime, xs: &[f64]) -> Seen {
     let n = xs.len();
     if LONGEST < n {
         return Seen {
@@ -63,22 +63,22 @@ fn see_floats(xs: &[f64]) -> Seen {
         };
     }
     let mut b = [0.0; 864];
-    see_into(xs, &mut b[0..n])
+    see_into(rt, xs, &mut b[0..n])
 }
 
 // Two stores, one after the other.
-fn see_two(a: &[f64], b: &[f64]) -> Seen {
-    let first = see_floats(a);
-    let second = see_floats(b);
+fn see_two(rt: &HostRuntime, a: &[f64], b: &[f64]) -> Seen {
+    let first = see_floats(rt, a);
+    let second = see_floats(rt, b);
     differ::joined(first, second)
 }
 
 // The block of a record beside the one that is answered.
-fn see_block(r: Record) -> Seen {
+fn see_block(rt: &HostRuntime, r: Record) -> Seen {
     let mut a = [0u8; BLOCK_LENGTH];
     let mut b = [0u8; BLOCK_LENGTH];
     block::put_record(&mut a, r);
-    let whole = input::read_bytes(&mut b);
+    let whole = input::read_bytes(rt, &mut b);
     let c = differ::bytes_compared(&a, &mut b);
     Seen {
         whole,
@@ -118,6 +118,7 @@ fn told(whole: bool, refusal: u32, r: Record, steps: usize, s: Seen) -> Outcome
 
 // The nine stores, and the samples.
 fn read_stores(
+    rt: &HostRuntime,
     samples: &mut [f64],
     e: &mut [f64],
     h: &mut [f64],
@@ -129,15 +130,16 @@ fn read_stores(
     aux: &mut [f64],
     ids: &mut [u32],
 ) -> bool {
-    let fields = input::read_three(e, h, media);
-    let layer = input::read_three(psi_e, psi_h, tables);
-    let rest = input::read_floats(poles) & input::read_floats(aux);
-    let cells = input::read_ids(ids);
-    fields & layer & rest & cells & input::read_floats(samples)
+    let fields = input::read_three(rt, e, h, media);
+    let layer = input::read_three(rt, psi_e, psi_h, tables);
+    let rest = input::read_floats(rt, poles) & input::read_floats(rt, aux);
+    let cells = input::read_ids(rt, ids);
+    fields & layer & rest & cells & input::read_floats(rt, samples)
 }
 
 // The steps of a record, and then the answers beside what they leave.
 fn replayed(
+    rt: &HostRuntime,
     whole: bool,
     r: Record,
     samples: &[f64],
@@ -158,18 +160,19 @@ fn replayed(
     let clock = o.clock;
     let mut q = r;
     q.clock = clock;
-    let fields = see_two(e, h);
-    let layer = see_two(psi_e, psi_h);
-    let rest = see_two(poles, aux);
+    let fields = see_two(rt, e, h);
+    let layer = see_two(rt, psi_e, psi_h);
+    let rest = see_two(rt, poles, aux);
     let seen = differ::joined(
         differ::joined(fields, layer),
-        differ::joined(rest, see_block(q)),
+        differ::joined(rest, see_block(rt, q)),
     );
     told(whole, o.refusal, q, samples.len(), seen)
 }
 
 // A study in stores of its lengths.
 fn play(
+    rt: &HostRuntime,
     r: Record,
     samples: &mut [f64],
     e: &mut [f64],
@@ -182,9 +185,11 @@ fn play(
     aux: &mut [f64],
     ids: &mut [u32],
 ) -> Outcome {
-    let whole = read_stores(samples, e, h, media, psi_e, psi_h, tables, poles, aux, ids);
+    let whole = read_stores(
+        rt, samples, e, h, media, psi_e, psi_h, tables, poles, aux, ids,
+    );
     replayed(
-        whole, r, samples, e, h, media, psi_e, psi_h, tables, poles, aux, ids,
+        rt, whole, r, samples, e, h, media, psi_e, psi_h, tables, poles, aux, ids,
     )
 }
 
@@ -213,7 +218,7 @@ fn cut(n: usize, most: usize) -> usize
 }
 
 // A study in arrays of its own.
-fn lend(c: Counts, r: Record) -> Outcome {
+fn lend(rt: &HostRuntime, c: Counts, r: Record) -> Outcome {
     let mut e = [0.0; 192];
     let mut h = [0.0; 192];
     let mut media = [0.0; 192];
@@ -235,6 +240,7 @@ fn lend(c: Counts, r: Record) -> Outcome {
     let ni = cut(c.ids, 64);
     let ns = cut(c.samples, 3);
     play(
+        rt,
         r,
         &mut samples[0..ns],
         &mut e[0..ne],
@@ -250,9 +256,9 @@ fn lend(c: Counts, r: Record) -> Outcome {
 }
 
 // The next study of the list.
-pub fn next() -> Outcome {
+pub fn next(rt: &HostRuntime) -> Outcome {
     let mut head = [0u8; 40];
-    if !input::read_bytes(&mut head) {
+    if !input::read_bytes(rt, &mut head) {
         return no_study();
     }
     let c = input::counts_of(&head);
@@ -260,11 +266,11 @@ pub fn next() -> Outcome {
         return no_study();
     }
     let mut b = [0u8; BLOCK_LENGTH];
-    if !input::read_bytes(&mut b) {
+    if !input::read_bytes(rt, &mut b) {
         return no_study();
     }
     if !block::is_record(&b) {
         return no_study();
     }
-    lend(c, block::get_record(&b))
+    lend(rt, c, block::get_record(&b))
 }

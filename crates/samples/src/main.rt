@@ -1,5 +1,7 @@
 // The sample studies of document 01 that are not in the theorem, run and compared with what the document says; and each once more with one thing stated
 // otherwise, so that it shows that it can tell.
+#![tactic(auto)]
+
 pub mod small;
 pub mod waves;
 
@@ -11,18 +13,20 @@ use cpml::absorber::Absorbing;
 use cpml::{Psi, absorber, memory};
 use grid::Record;
 use root::Spacings;
+use std::io;
+use std::io::Write;
 
-fn say(what: &[u8], holds: bool, changed: bool) {
-    io::write_all(libc::STDOUT_FILENO, what);
+fn say(rt: &HostRuntime, what: &[u8], holds: bool, changed: bool) -> io::Result<()> {
+    rt.stdout().write_all(what)?;
     if holds {
-        io::write_all(libc::STDOUT_FILENO, b": as stated");
+        rt.stdout().write_all(b": as stated")?;
     } else {
-        io::write_all(libc::STDOUT_FILENO, b": OTHERWISE");
+        rt.stdout().write_all(b": OTHERWISE")?;
     }
     if changed {
-        io::write_all(libc::STDOUT_FILENO, b", A CHANGE NOT SEEN\n");
+        rt.stdout().write_all(b", A CHANGE NOT SEEN\n")
     } else {
-        io::write_all(libc::STDOUT_FILENO, b", a change seen\n");
+        rt.stdout().write_all(b", a change seen\n")
     }
 }
 
@@ -203,47 +207,55 @@ fn sigma_kept(r: Record, stated: f64) -> bool {
     (o.refusal == 0) & same(media[2], stated)
 }
 
-fn main() {
+fn main(rt: HostRuntime) -> io::Result<()> {
     let r = line();
     let c = one_cell();
     say(
+        &rt,
         b"n 24, thickness 0 inactive",
         inactive(r, 0),
         inactive(r, 11),
-    );
+    )?;
     say(
+        &rt,
         b"n 24, thickness 11 active",
         active_on_z(r, 11),
         active_on_z(r, 12),
-    );
+    )?;
     say(
+        &rt,
         b"n 24, thickness 12 inactive",
         inactive(r, 12),
         inactive(r, 11),
-    );
+    )?;
     say(
+        &rt,
         b"all twelve memories cleared",
         memories_cleared(r, 0.0),
         memories_cleared(r, 1.5),
-    );
+    )?;
     say(
+        &rt,
         b"lossy, n 1, sigma kept",
         sigma_kept(c, 0.25),
         sigma_kept(c, 0.5),
-    );
+    )?;
     say(
+        &rt,
         b"a wave's line after one step and two",
         waves::wave_sent(3.0, 1000000000000000000.0, 1000000000000000000.0),
         waves::wave_sent(3.0, 1000000000000000000.0, 2000000000000000000.0),
-    );
+    )?;
     say(
+        &rt,
         b"a fresh save of 1,389 bytes",
         small::has_length(1389),
         small::has_length(1388),
-    );
+    )?;
     say(
+        &rt,
         b"1,388 of them are 13, 1,390 are 16",
         small::one_less_one_more(13),
         small::one_less_one_more(16),
-    );
+    )
 }

@@ -40,13 +40,15 @@ pub fn read(path: &str) -> String {
     fs::read_to_string(top().join(path)).unwrap_or_else(|e| panic!("{path}: {e}"))
 }
 
-/// The files below a folder, as paths from the repository's top.
+/// The files below a folder, as paths from the repository's top. A crate's out/ is no part of the repository.
 pub fn files(folder: &str, ending: &str) -> Vec<String> {
     fn walk(dir: &Path, ending: &str, out: &mut Vec<String>) {
         for entry in fs::read_dir(dir).unwrap() {
             let path = entry.unwrap().path();
             if path.is_dir() {
-                walk(&path, ending, out);
+                if !path.ends_with("out") {
+                    walk(&path, ending, out);
+                }
             } else if path.to_str().unwrap().ends_with(ending) {
                 let short = path.strip_prefix(top()).unwrap();
                 out.push(short.to_str().unwrap().to_string());

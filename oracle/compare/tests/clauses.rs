@@ -1,5 +1,6 @@
-//! Every C function on a study promises that the call it makes is one of demand 3: its contract has the clause `honest`. The crates `preparing`, `stepping` and `program`
-//! lean on the clause of those that they call; of the others this alone tells that it is there.
+//! Every C function on a study promises that the call it makes is one of demand 3: its contract has the clause `honest`. The C functions stand in `api_c`; each has the
+//! name and the contract of the function of `api` that it calls. The crates `preparing`, `stepping` and `program` lean on the clause of those of `api` that they call;
+//! of the others this alone tells that it is there.
 
 use std::fs;
 use std::path::{Path, PathBuf};
@@ -23,12 +24,10 @@ fn sources(name: &str) -> Vec<String> {
         .collect()
 }
 
-/// The exported functions: name, and all between it and its body.
-fn exported() -> Vec<(String, String)> {
-    let texts = sources("api");
-    let parts = texts
-        .iter()
-        .flat_map(|text| text.split("pub extern \"C\" fn ").skip(1));
+/// The functions of a crate after whose lead their name comes: name, and all between it and its body.
+fn functions(of: &str, lead: &str) -> Vec<(String, String)> {
+    let texts = sources(of);
+    let parts = texts.iter().flat_map(|text| text.split(lead).skip(1));
     let function = |part: &str| {
         let name: String = part
             .chars()
@@ -41,6 +40,11 @@ fn exported() -> Vec<(String, String)> {
         (name, part[..end].to_string())
     };
     parts.map(function).collect()
+}
+
+/// The exported functions.
+fn exported() -> Vec<(String, String)> {
+    functions("api_c", "pub extern \"C\" fn ")
 }
 
 /// The first thing that a function on a study is lent is its block.
@@ -76,6 +80,34 @@ fn every_function_on_a_study_has_the_clause() {
     );
     for (name, head) in &functions {
         assert_eq!(has_clause(head), is_on_study(head), "{name}");
+    }
+}
+
+/// Parameters, answer and clauses, however they are laid out.
+fn laid_out(head: &str) -> String {
+    let text: String = head.split_whitespace().collect();
+    text.replace(",)", ")")
+}
+
+/// What the crates above `api` lean on is what a C caller is promised.
+#[test]
+fn a_c_function_has_the_contract_of_the_one_it_calls() {
+    let called: Vec<(String, String)> = functions("api", "pub fn cichowiej_")
+        .into_iter()
+        .map(|(name, head)| (format!("cichowiej_{name}"), format!("cichowiej_{head}")))
+        .collect();
+    let of_c = exported();
+    assert_eq!(
+        of_c.len(),
+        called.len(),
+        "functions of api, and C functions"
+    );
+    for (name, head) in &of_c {
+        let (_, own) = called
+            .iter()
+            .find(|(other, _)| other == name)
+            .unwrap_or_else(|| panic!("api has no {name}"));
+        assert_eq!(laid_out(head), laid_out(own), "{name}");
     }
 }
 

@@ -227,7 +227,7 @@ fn functions(line: &str, of_functions: &mut bool) -> Vec<String> {
         .step_by(2)
         .filter(|_| *of_functions);
     let names = spans.map(|span| span.rsplit("::").next().unwrap().to_string());
-    // definitions have capitals in their names, and functions none
+    // constants have capitals in their names, and functions none
     names
         .filter(|name| name != "requires" && !name.contains(char::is_uppercase))
         .collect()

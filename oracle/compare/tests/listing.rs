@@ -15,7 +15,7 @@ fn listed(bytes: &[u8]) -> String {
     let program = top().join("target/bin/listing");
     assert!(
         program.exists(),
-        "{} is not there: `rt check listing` builds it",
+        "{} is not there: `make compare` builds it",
         program.display()
     );
     let mut child = Command::new(program)

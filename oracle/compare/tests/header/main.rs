@@ -21,7 +21,7 @@ fn header() -> Signatures {
 
 /// The texts of the source files, in any order.
 fn engine_source() -> String {
-    let entries = fs::read_dir(top().join("crates/api/src")).unwrap();
+    let entries = fs::read_dir(top().join("crates/api_c/src")).unwrap();
     let files = entries.map(|entry| entry.unwrap().path());
     let texts = files.filter(|path| path.extension().is_some_and(|e| e == "rt"));
     texts
@@ -43,7 +43,10 @@ fn same(header: &Signatures, other: &Signatures, which: &str) {
 fn the_header_declares_what_the_engine_has() {
     let header = header();
     assert!(header.len() > 11);
-    let source = of_source(&engine_source(), "#[no_mangle]\npub extern \"C\" fn ");
+    let source = of_source(
+        &engine_source(),
+        "#[unsafe(no_mangle)]\npub extern \"C\" fn ",
+    );
     same(&header, &source, "the engine's source");
     report(&format!("header: {} functions", header.len()));
 }

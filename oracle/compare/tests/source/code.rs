@@ -75,7 +75,7 @@ pub fn file(text: &str) -> File {
         };
         match word {
             "fn" => functions.push(function(&code[start..at])),
-            "use" => uses.push(used(&code[start + 1..at - 1])),
+            "use" => uses.extend(used(&code[start + 1..at - 1])),
             _ => items.push(code[start].clone()),
         }
     }
@@ -104,8 +104,26 @@ fn code(words: &[Word]) -> Vec<Word> {
     out
 }
 
-/// The names along a `use` line's path.
-fn used(words: &[Word]) -> Vec<String> {
+/// The paths of a `use` line: `a::b`, or `a::{b, c}`, which is `a::b` and `a::c`.
+fn used(words: &[Word]) -> Vec<Vec<String>> {
+    let Some(open) = words.iter().position(|word| word.is("{")) else {
+        return vec![path(words)];
+    };
+    let alone = closing(words, open) == words.len() - 1 && open > 1 && words[open - 1].is("::");
+    let parts = parts(words, open + 1..words.len() - 1);
+    let with_self = parts.iter().any(|part| words[part.start].is("self"));
+    assert!(
+        alone && !with_self,
+        "line {}: a form of `use` to teach this test",
+        words[0].line
+    );
+    let lead = path(&words[..open - 1]);
+    let full = |part: Range<usize>| [lead.clone(), path(&words[part])].concat();
+    parts.into_iter().map(full).collect()
+}
+
+/// The names along a path.
+fn path(words: &[Word]) -> Vec<String> {
     let (names, between): (Vec<_>, Vec<_>) = words.iter().partition(|word| word.is_name());
     let plain = between.iter().all(|word| word.is("::")) && words.len() == 2 * names.len() - 1;
     assert!(

@@ -15,11 +15,12 @@ use rules::{Finding, findings};
 use std::collections::BTreeSet;
 use tree::{Texts, Tree, texts};
 
-const SAVE: [&str; 3] = ["api", "saving", "cichowiej_save"];
+const SAVE: [&str; 3] = ["api_c", "saving", "cichowiej_save"];
 
 /// The files that the writer's functions stand in, below crates/.
-const WRITER: [&str; 19] = [
+const WRITER: [&str; 20] = [
     "api/src/saving.rt",
+    "api_c/src/saving.rt",
     "block/src/lib.rt",
     "codec/src/floats.rt",
     "codec/src/frame.rt",

@@ -1,0 +1,18 @@
+use mathlib.Core.Path.{refl}
+use Rattle.grid.proofs.Tests.{unless, met}
+use Rattle.block.proofs.Turns.{block_long}
+use Rattle.on_block.proofs.Passing.{well, naming_of, unnamed}
+use Rattle.std.proofs.Common.{rules}
+use Rattle.on_block.proofs.walls.set_boundary_cpml.Goals as goal
+
+pub returns-then-not-is_record : goal.returns-then-not-is_record
+returns-then-not-is_record c = unnamed _ _ c.args.active.now (unless c.is_record.ensures c.if-not-is_record.true) c.answer_number.ensures
+
+pub get_record-r-requires : goal.get_record-r-requires
+get_record-r-requires c = met c.is_record.ensures c.if-not-is_record.false
+
+pub keep-requires : goal.keep-requires
+keep-requires c = block_long _ (met c.is_record.ensures c.if-not-is_record.false)
+
+pub returns : goal.returns
+returns c = well _ _ _ (met c.is_record.ensures c.if-not-is_record.false) c.get_record-r.ensures (naming_of c.args.active.now c.set_boundary_cpml-o.ensures c.axis_bits.ensures c.answer_number-2.ensures) c.keep.ensures

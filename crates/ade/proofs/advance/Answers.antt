@@ -13,7 +13,7 @@ pub advance_cells-requires : goal.advance_cells-requires
 advance_cells-requires c =
     let pre = c.requires in
     let args = c.args in
-    record { poles_room = room args.eps0 args.r args.ids.now args.e.now args.poles.now (pre) _ (ap length c.fill.ensures ∙ cleared_length args.eps0 args.r args.ids.now args.e.now args.poles.now (pre)); n_in_bounds = omega arith; by_index = known_counts args.eps0 args.r args.ids.now args.e.now args.poles.now (pre) _ c.count_poles.ensures }
+    record { poles_room = room args.eps0 args.r args.ids.now args.e.now args.poles.now pre _ (ap length c.fill.ensures ∙ cleared_length args.eps0 args.r args.ids.now args.e.now args.poles.now pre); n_in_bounds = omega arith; by_index = known_counts args.eps0 args.r args.ids.now args.e.now args.poles.now pre _ c.count_poles.ensures }
 
 pub returns : goal.returns
 returns c =

@@ -35,7 +35,6 @@ ez_lower-requires c = low_of c.requires
 
 pub add_face-requires-3 : goal.add_face-requires-3
 add_face-requires-3 c =
-    let c = c in
     let a = c.args in
     asked false a.eps0 (line_length a.r.nz) a.r a.media.now a.line.now a.e.now _ _ _ c.requires (c.add_face-2.auto.s ∙ c.add_face.auto.s) (omega arith) c.ez_lower.ensures (ez_lower_fit a.r c.requires.corners)
 
@@ -44,23 +43,15 @@ ez_upper-requires c = low_of c.requires
 
 pub add_face-requires-4 : goal.add_face-requires-4
 add_face-requires-4 c =
-    let c = c in
-    let c = c in
     let a = c.args in
     asked false a.eps0 (line_length a.r.nz) a.r a.media.now a.line.now a.e.now _ _ _ c.requires (c.add_face-3.auto.s ∙ c.add_face-2.auto.s ∙ c.add_face.auto.s) (omega arith) c.ez_upper.ensures (ez_upper_fit a.r c.requires.corners)
 
 pub shape_of-e : goal.shape_of-e
 shape_of-e c =
-    let c = c in
-    let c = c in
-    let c = c in
     c.add_face-4.auto.s ∙ c.add_face-3.auto.s ∙ c.add_face-2.auto.s ∙ c.add_face.auto.s
 
 pub returns : goal.returns
 returns c =
-    let c = c in
-    let c = c in
-    let c = c in
     let a = c.args in
     corrected_e_lem a.eps0 a.r a.media.now a.line.now _ _ _ _ a.e.now _ _ _ _ c.requires
     c.add_face.auto.s c.add_face-2.auto.s c.add_face-3.auto.s

@@ -31,7 +31,6 @@ hz_lower-requires c = low_of c.requires
 
 pub add_face-requires-3 : goal.add_face-requires-3
 add_face-requires-3 c =
-    let c = c in
     let a = c.args in
     asked true a.mu0 0 a.r a.media.now a.line.now a.h.now _ _ _ c.requires (c.add_face-2.auto.s ∙ c.add_face.auto.s) (omega arith) c.hz_lower.ensures (hz_lower_fit a.r c.requires.corners)
 
@@ -40,23 +39,15 @@ hz_upper-requires c = low_of c.requires
 
 pub add_face-requires-4 : goal.add_face-requires-4
 add_face-requires-4 c =
-    let c = c in
-    let c = c in
     let a = c.args in
     asked true a.mu0 0 a.r a.media.now a.line.now a.h.now _ _ _ c.requires (c.add_face-3.auto.s ∙ c.add_face-2.auto.s ∙ c.add_face.auto.s) (omega arith) c.hz_upper.ensures (hz_upper_fit a.r c.requires.corners)
 
 pub shape_of-h : goal.shape_of-h
 shape_of-h c =
-    let c = c in
-    let c = c in
-    let c = c in
     c.add_face-4.auto.s ∙ c.add_face-3.auto.s ∙ c.add_face-2.auto.s ∙ c.add_face.auto.s
 
 pub returns : goal.returns
 returns c =
-    let c = c in
-    let c = c in
-    let c = c in
     let a = c.args in
     corrected_h_lem a.mu0 a.r a.media.now a.line.now _ _ _ _ a.h.now _ _ _ _ c.requires
     c.add_face.auto.s c.add_face-2.auto.s c.add_face-3.auto.s

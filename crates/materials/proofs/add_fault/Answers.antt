@@ -15,7 +15,6 @@ material_fits-fits-requires c = (sound _ (sym c.fault_of-f.ensures ∙ c.if-f-ne
 pub returns : goal.returns
 unfolding add_fault
 returns c =
-    let c = c in
     or_goes _ _ _ _ c.fault_of-f.ensures c.if-f-ne0.false
     (told_by c.args.r c.args.m c.chosen-eps0.ensures c.material_fits-fits.ensures c.first_fault-full.ensures
     c.first_fault-bad.ensures

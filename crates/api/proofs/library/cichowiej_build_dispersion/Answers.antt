@@ -1,0 +1,6 @@
+use Rattle.study.proofs.Entries.{cichowiej_build_dispersion}
+use Rattle.std.proofs.Common.{rules}
+use Rattle.api.proofs.library.cichowiej_build_dispersion.Goals as goal
+
+pub returns : goal.returns
+returns c = let e = c.build_dispersion.ensures in record { poles_after = e; honest = cichowiej_build_dispersion _ _ _ _ _ e }

@@ -1,0 +1,6 @@
+use Rattle.study.proofs.Entries.{cichowiej_save_length}
+use Rattle.std.proofs.Common.{rules}
+use Rattle.api.proofs.saving.cichowiej_save_length.Goals as goal
+
+pub returns : goal.returns
+returns c = let e = c.save_length.ensures in record { length_after = e; honest = cichowiej_save_length _ _ _ _ e }

@@ -1,0 +1,6 @@
+use Rattle.study.proofs.Entries.{cichowiej_reset_fields}
+use Rattle.std.proofs.Common.{rules}
+use Rattle.api.proofs.studies.cichowiej_reset_fields.Goals as goal
+
+pub returns : goal.returns
+returns c = let e = c.reset_fields.ensures in record { poles_after = e; honest = cichowiej_reset_fields _ _ _ _ _ e }

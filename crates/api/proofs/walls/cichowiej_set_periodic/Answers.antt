@@ -1,0 +1,6 @@
+use Rattle.study.proofs.Entries.{cichowiej_set_periodic}
+use Rattle.std.proofs.Common.{rules}
+use Rattle.api.proofs.walls.cichowiej_set_periodic.Goals as goal
+
+pub returns : goal.returns
+returns c = let e = c.set_periodic.ensures in record { tt_after = e; honest = cichowiej_set_periodic _ _ _ _ _ _ e }

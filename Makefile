@@ -36,13 +36,13 @@ SOURCES := $(shell find crates -mindepth 2 -name out -prune -o -print) crates.tx
 ENGINE := target/staticlib/libapi.a
 engine: $(ENGINE)
 $(ENGINE): $(SOURCES)
-	@mkdir -p $(@D) && if ! rt lib api_c > target/engine.txt 2>&1; then tail -n 40 target/engine.txt; exit 1; fi
+	@mkdir -p $(@D) && if ! (cd crates/api_c && rt lib) > target/engine.txt 2>&1; then tail -n 40 target/engine.txt; exit 1; fi
 	@cp crates/api_c/out/libapi_c.a $@
 
 # The program that lists a save, likewise.
 LISTING := target/bin/listing
 $(LISTING): $(SOURCES)
-	@mkdir -p $(@D) && if ! rt run listing < /dev/null > target/listing.txt 2>&1; then tail -n 40 target/listing.txt; exit 1; fi
+	@mkdir -p $(@D) && if ! (cd crates/listing && rt run < /dev/null) > target/listing.txt 2>&1; then tail -n 40 target/listing.txt; exit 1; fi
 	@cp crates/listing/out/listing $@
 
 command: engine

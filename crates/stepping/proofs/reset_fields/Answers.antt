@@ -1,6 +1,5 @@
 use mathlib.Core.Path.{refl}
 use Rattle.runs.proofs.Going.{goes}
-use Rattle.std.proofs.Common.{rules}
 use Rattle.stepping.proofs.reset_fields.Goals as goal
 
 pub returns : goal.returns

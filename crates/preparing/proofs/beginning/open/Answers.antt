@@ -1,6 +1,4 @@
-use mathlib.Core.Path.{refl}
 use Rattle.runs.proofs.Going.{opens, begun}
-use Rattle.std.proofs.Common.{rules}
 use Rattle.preparing.proofs.beginning.open.Goals as goal
 
 pub returns : goal.returns

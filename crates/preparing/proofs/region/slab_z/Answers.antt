@@ -1,6 +1,5 @@
 use mathlib.Core.Path.{refl}
 use Rattle.runs.proofs.Going.{goes}
-use Rattle.std.proofs.Common.{rules}
 use Rattle.preparing.proofs.region.slab_z.Goals as goal
 
 pub returns : goal.returns

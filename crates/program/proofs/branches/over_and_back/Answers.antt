@@ -1,6 +1,4 @@
-use mathlib.Core.Path.{◌∙◌}
 use Rattle.runs.proofs.Going.{over_and_back}
-use Rattle.std.proofs.Common.{rules}
 use Rattle.program.proofs.branches.over_and_back.Goals as goal
 
 pub returns : goal.returns

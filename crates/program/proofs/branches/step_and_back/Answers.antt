@@ -1,6 +1,4 @@
-use mathlib.Core.Path.{◌∙◌}
 use Rattle.runs.proofs.Going.{step_and_back}
-use Rattle.std.proofs.Common.{rules}
 use Rattle.program.proofs.branches.step_and_back.Goals as goal
 
 pub returns : goal.returns

@@ -1,6 +1,4 @@
-use mathlib.Core.Path.{refl}
 use Rattle.runs.proofs.Going.{rewound}
-use Rattle.std.proofs.Common.{rules}
 use Rattle.program.proofs.taking.rewind.Goals as goal
 
 pub returns : goal.returns

@@ -1,6 +1,4 @@
-use mathlib.Core.Path.{refl}
 use Rattle.runs.proofs.Going.{saved}
-use Rattle.std.proofs.Common.{rules}
 use Rattle.program.proofs.taking.save.Goals as goal
 
 pub returns : goal.returns

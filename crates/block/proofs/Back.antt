@@ -24,7 +24,7 @@ use Rattle.block.specs.Inner.Held.{Held}
 use Rattle.block.proofs.Turns.{bytes_long, block_parts}
 use Rattle.block.proofs.Entry.{material_shaped}
 use Rattle.block.proofs.Head.{head_fit, head_shaped}
-use Rattle.block.proofs.Counted.{entry_is, record-back}
+use Rattle.block.proofs.Counted.{entry_is, record_back}
 
 module _ (r : Record) (ok : fault_of r ≡ 0) (h : Held r) where
   abbrev b : List ℕ
@@ -82,6 +82,6 @@ module _ (r : Record) (ok : fault_of r ≡ 0) (h : Held r) where
   unfolding block_fine
   fine_block = rw (eq-eqb (length b) block_length long, ap gh_shaped head_is ∙ head_shaped r ok h, all_true (entry_fine b) 16 entry_good)
 
-  pub record-block : block_record (block_of r) ≡ canon r
+  pub record_block : block_record (block_of r) ≡ canon r
   unfolding block_record
-  record-block = ap (λ (g : List ℕ). record_of g (entries b)) head_is ∙ record-back r ok h (entries b) parts
+  record_block = ap (λ (g : List ℕ). record_of g (entries b)) head_is ∙ record_back r ok h (entries b) parts

@@ -50,9 +50,9 @@ module _ (r : Record) (ok : fault_of r ≡ 0) (h : Held r) (p : List ℕ)
   entry_is i l =
       nums_part ml_widths (ml_nums (material i)) p (ml_length * i) ml_length (material_fit (material i) (h.each i (omega (arith, l, small))) (few_poles r ok h i l)) (parts i l)
 
-  pub record-back : record_of (gh_nums r) p ≡ canon r
+  pub record_back : record_of (gh_nums r) p ≡ canon r
   unfolding gh_nums materials_of
-  record-back =
+  record_back =
       head_back r ok h (materials_of count p)
       (keep_row count 16 vacuum_material (map canon_material r.materials) (entry_material count p) (length-map r.materials canon_material ∙ h.sixteen) (λ i l. go i l (ltb i count) refl))
     where

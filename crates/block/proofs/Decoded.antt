@@ -85,12 +85,12 @@ head_held l ms small e h = record {
 }
 
 -- whatever GH and the entries say, if four bytes hold the steps
-pub record-held : (g b : List ℕ) → get_or g 25 0 ≤ 4294967295 → Held (record_of g b)
+pub record_held : (g b : List ℕ) → get_or g 25 0 ≤ 4294967295 → Held (record_of g b)
 unfolding materials_of
-record-held g b small =
+record_held g b small =
     head_held g (materials_of (count_of g) b) small (length_row 16 _)
     (λ i l. subst MaterialHeld (sym (get_d_row 16 (entry_material (count_of g) b) i beyond l)) (entry_held (count_of g) b i))
 
 pub block_held : (b : List ℕ) → length b ≡ block_length → ((i : ℕ) → get_or b i 0 < 256) → Held (block_record b)
 unfolding block_record
-block_held b e h = record-held (head_of b) (entries b) (steps_small b e h)
+block_held b e h = record_held (head_of b) (entries b) (steps_small b e h)

@@ -51,9 +51,9 @@ module _ (nx ny nz : ℕ) (fx fy fz : ℕ → Float) (w wx wy wz : List Float) (
       ∙ put_inside wy (nx + ny) (row nz fz) k nan (omega (arith, long_y)) (omega (arith, length_row nz fz))
       ∙ get_d_row nz fz k nan h
 
-  cells-looked :
+  cells_looked :
       cellwise nx ny nz (looked nx ny nz wz) ≡ cellwise nx ny nz (λ i j k. strongest (fx i) (fx (nx - 1 - i)) (fy j) (fy (ny - 1 - j)) (fz k) (fz (nz - 1 - k)))
-  cells-looked = cellwise_same nx ny nz _ _ (λ i j k p q r.
+  cells_looked = cellwise_same nx ny nz _ _ (λ i j k p q r.
       rw (at_x i p, at_x (nx - 1 - i) (omega arith), at_y j q, at_y (ny - 1 - j) (omega arith), at_z k r, at_z (nz - 1 - k) (omega arith)))
 
 -- the walls filled by their rule give the graded conductivity
@@ -62,7 +62,7 @@ pub graded_cells : (nx ny nz tx ty tz order : ℕ) (max : Float) (w wx wy wz m n
     n ≡ put m at (cellwise nx ny nz (looked nx ny nz wz)) → n ≡ put m at (cellwise nx ny nz (graded_sigma nx ny nz tx ty tz order max))
 unfolding graded_sigma
 graded_cells nx ny nz tx ty tz order max w wx wy wz m n at long x y z e =
-    e ∙ ap (put m at) (cells-looked nx ny nz (wall_sigma tx order max) (wall_sigma ty order max) (wall_sigma tz order max) w wx wy wz long x y z)
+    e ∙ ap (put m at) (cells_looked nx ny nz (wall_sigma tx order max) (wall_sigma ty order max) (wall_sigma tz order max) w wx wy wz long x y z)
 
 -- ---- what each branch picks
 pub wall_in : (t order : ℕ) (max : Float) (d : ℕ) → d < t → wall_sigma t order max d ≡ max ⊗ power (of_count (t - d) ⊘ of_count t) order

@@ -19,6 +19,6 @@ cellwise nx ny nz f = joined nz (λ k. joined ny (λ j. row nx (λ i. f i j k)))
 abbrev pub cell_index : (nx ny i j k : ℕ) → ℕ
 cell_index nx ny i j k = i + j * nx + k * (nx * ny)
 
--- n numbers a cell: of N = nx·ny·nz cells, number c of cell (i, j, k) stands at c N + cellIndex (`components_at`, Reading.antt)
+-- n numbers a cell: of N = nx·ny·nz cells, number c of cell (i, j, k) stands at c N + cell_index (`components_at`, Reading.antt)
 unfoldable pub components : {A : Type 0} → (n nx ny nz : ℕ) → (ℕ → ℕ → ℕ → ℕ → A) → List A
 components n nx ny nz f = joined n (λ c. cellwise nx ny nz (f c))

@@ -17,7 +17,7 @@ use Rattle.fdtd.specs.declared.turns.Turn.{Turn}
 use Rattle.fdtd.specs.Axes.{axis, previous_of}
 use Rattle.fdtd.specs.Yee.{ca, cb, updated_e}
 use Rattle.fdtd.specs.Inner.Cell.{curl_on, first_on, second_on}
-use Rattle.fdtd.specs.Halves.{half_e, moves_at, curl_at, first_after, second_after, psi_after, electricAt, electric_after}
+use Rattle.fdtd.specs.Halves.{half_e, moves_at, curl_at, first_after, second_after, psi_after, electric_at, electric_after}
 use Rattle.fdtd.specs.Inner.Turns.{turn_x, turn_y, turn_z, turn_for}
 use Rattle.fdtd.proofs.Fits.{previous_less}
 use Rattle.fdtd.proofs.Grids.{All, in_x, in_y, in_z, Of, field_is, memories_are}
@@ -58,8 +58,8 @@ module _ (eps0 : Float) (r : Record) (h media tab poles e m e' m' : List Float) 
   each_of g p w = in_case (eqb r.nx 1) (eqb r.ny 1) refl refl (subst (λ (x : Turn). Swept eps0 (change_for r) x h media tab poles e m (x.t.n * x.s.n) e' m') p w)
 
   -- they are the definition's
-  field_same : (a i j k : ℕ) → (axis r 0 a).at ≡ a * cells r → Of r 0 previous_of F a i j k ≡ electricAt eps0 r h media tab (delta_p r poles) m e a i j k
-  unfolding electricAt moves_at curl_at curl_on field_e
+  field_same : (a i j k : ℕ) → (axis r 0 a).at ≡ a * cells r → Of r 0 previous_of F a i j k ≡ electric_at eps0 r h media tab (delta_p r poles) m e a i j k
+  unfolding electric_at moves_at curl_at curl_on field_e
   field_same a i j k p =
       let cell : ℕ = cell_index r.nx r.ny i j k in
       let none : cell ≡ 0 * cells r + cell = omega arith in

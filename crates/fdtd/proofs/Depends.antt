@@ -15,8 +15,8 @@ use Rattle.grid.specs.Stores.{number_at, cells}
 use Rattle.fdtd.specs.declared.Coef.{Coef}
 use Rattle.fdtd.specs.Axes.{axis, turn}
 use Rattle.fdtd.specs.Yee.{Term, term, slope, curl, memory_after, factor, ca, cb, updated_h, updated_e}
-use Rattle.fdtd.specs.Halves.{Half, half_h, half_e, moves_at, first_term, second_term, curl_at, first_after, second_after, psi_after, magnetic_at, magnetic_after, electricAt, electric_after}
-use Rattle.fdtd.specs.Reading.{magnetic_at_lem, electric_at, psi_at}
+use Rattle.fdtd.specs.Halves.{Half, half_h, half_e, moves_at, first_term, second_term, curl_at, first_after, second_after, psi_after, magnetic_at, magnetic_after, electric_at, electric_after}
+use Rattle.fdtd.specs.Reading.{magnetic_at_lem, electric_at_lem, psi_at}
 
 -- ---- over variables
 pub term_same : (on : Bool) (k : Coef) (d : Float) {x x' y y' z z' : Float} → x ≡ x' → y ≡ y' → z ≡ z' → term on k x (slope d y z) ≡ term on k x' (slope d y' z')
@@ -138,12 +138,12 @@ module _ (r : Record) (tables : List Float) (i j k : ℕ) (x : i < r.nx) (y : j 
       (moves_at half_e r h tables psi a i j k ≡ true → CurlEnds half_e r h h' a i j k) → Own psi psi' (2 * a) → Own psi psi' (2 * a + 1) →
       Own media media' 0 → Own media media' 2 → dp a (cell_index r.nx r.ny i j k) ≡ dp' a (cell_index r.nx r.ny i j k) → Own e e' a →
       Own (electric_after eps0 r h media tables dp psi e) (electric_after eps0 r h' media' tables dp' psi' e') a
-  unfolding electricAt moves_at
+  unfolding electric_at moves_at
   electric_same eps0 h h' media media' dp dp' psi psi' e e' a l d p q me ms c s =
       let w = weights_same eps0 r.spacings.dt me ms in
-      electric_at r i j k x y z eps0 h media tables dp psi e a l
+      electric_at_lem r i j k x y z eps0 h media tables dp psi e a l
       ∙ moved_e (moves_at half_e r h tables psi a i j k) r.spacings.dt w.0 w.1 c (λ b. curl_same half_e r h h' tables psi psi' a i j k l p q (d b)) s
-      ∙ sym (electric_at r i j k x y z eps0 h' media' tables dp' psi' e' a l)
+      ∙ sym (electric_at_lem r i j k x y z eps0 h' media' tables dp' psi' e' a l)
 
   pub psi_same : (w : Half) (f g p q : List Float) (m : ℕ) → m < 6 → (moves_at w r f tables p (m / 2) i j k ≡ true → CurlEnds w r f g (m / 2) i j k) → Own p q m →
       Own (psi_after w r f tables p) (psi_after w r g tables q) m

@@ -1,6 +1,6 @@
 -- The three axes of a study by number, 0 x, 1 y, 2 z, so that each formula is said once for all of them. An `Axis` (src/lib.rt):
 --   n cells of size d; wraps: it is periodic, else it ends in perfectly conducting walls; on: the layer is active along it (`active` of the record);
---   at: where the component along it begins in E or H; mem: where that component's two memories begin in psiE or psiH;
+--   at: where the component along it begins in E or H; mem: where that component's two memories begin in psi_e or psi_h;
 --   tab: where its own 1/κ, b and c begin in the tables.
 -- Definitions only.
 use Rattle.std.specs.Prelude.{ℕ, zero, suc, ◌+◌, ◌-◌, ◌*◌, Bool, false, not, cond, ◌&&◌, ◌||◌, ltb, eqb, get_or}

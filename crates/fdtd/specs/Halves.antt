@@ -79,9 +79,9 @@ unfoldable pub magnetic_after : (mu0 : Float) → Record → (electric media tab
 magnetic_after mu0 r e media tables psi h = components 3 r.nx r.ny r.nz (magnetic_at mu0 r e media tables psi h)
 
 -- the electric store after its half step; dp is the polarization's change by component and cell
-unfoldable pub electricAt :
+unfoldable pub electric_at :
     (eps0 : Float) → Record → (magnetic media tables : List Float) → (ℕ → ℕ → Float) → (psi_e electric : List Float) → (a i j k : ℕ) → Float
-electricAt eps0 r h media tables dp psi e a i j k =
+electric_at eps0 r h media tables dp psi e a i j k =
     let dt = r.spacings.dt in
     let cell = cell_of r i j k in
     let eps_r = number_at media (cells r) 0 cell in
@@ -91,4 +91,4 @@ electricAt eps0 r h media tables dp psi e a i j k =
     (number_at e (cells r) a cell)
 
 unfoldable pub electric_after : (eps0 : Float) → Record → (magnetic media tables : List Float) → (ℕ → ℕ → Float) → (psi_e electric : List Float) → List Float
-electric_after eps0 r h media tables dp psi e = components 3 r.nx r.ny r.nz (electricAt eps0 r h media tables dp psi e)
+electric_after eps0 r h media tables dp psi e = components 3 r.nx r.ny r.nz (electric_at eps0 r h media tables dp psi e)

@@ -34,9 +34,9 @@ use Rattle.heads.specs.Payloads.{material_bytes, head_by, count_of, entry_at, en
 use Rattle.heads.proofs.Whole.{gh_total, ml_total}
 use Rattle.block.specs.Inner.Held.{Held}
 use Rattle.block.proofs.Again.{material_again, head_again}
-use Rattle.block.proofs.Decoded.{record-held as entries-held}
+use Rattle.block.proofs.Decoded.{record_held as entries_held}
 use Rattle.format.specs.Records.{piece, framed, frames, Expected, expected, record_fault, records_fault, payload_from}
-use Rattle.format.specs.Save.{mark_gH, eleven, list_bytes, pieces, save_bytes, save_length}
+use Rattle.format.specs.Save.{mark_gh, eleven, list_bytes, pieces, save_bytes, save_length}
 use Rattle.format.specs.Rewind.{is_old, head_size, save_head, bare, head_good, list_good, head_record, list_record, store_records, table, table_by, table_of, bytes_fault, payload_of, read_record, read_stores}
 use Rattle.format.specs.InMemory.{StoresHeld}
 use Rattle.format.proofs.Walk.{cut_up, Passed, walk_back, walk_passed, length_framed}
@@ -51,7 +51,7 @@ eleven_same a b c d e f g h i j k a' b' c' d' e' f' g' h' i' j' k' p q r s t u v
 
 -- GH as its study writes it, and the other records as they stand
 unfoldable pub rewritten : List ℕ → List ℕ
-rewritten b = framed (piece mark_gH (enc gh_widths (save_head b))) ++ drop (6 + head_size b) b
+rewritten b = framed (piece mark_gh (enc gh_widths (save_head b))) ++ drop (6 + head_size b) b
 
 module _ (b : List ℕ) (bytes : T (bytes_fit b)) (ok : bytes_fault b ≡ 0) where
   abbrev g : List ℕ
@@ -159,7 +159,7 @@ module _ (b : List ℕ) (bytes : T (bytes_fit b)) (ok : bytes_fault b ≡ 0) whe
   later = list_record g ∷ store_records n
 
   -- the bytes cut up are the records of the study that they say, but for GH
-  pub as_read : pieces (read_record b) (read_stores b) ≡ piece mark_gH (enc gh_widths g) ∷ cut_up later (drop (6 + head_size b) b)
+  pub as_read : pieces (read_record b) (read_stores b) ≡ piece mark_gh (enc gh_widths g) ∷ cut_up later (drop (6 + head_size b) b)
   unfolding pieces read_stores cut_up table_by table payload_from
   as_read =
       eleven_same _ _ _ _ _ _ _ _ _ _ _ _ _ _ _ _ _ _ _ _ _ _ (ap (enc gh_widths) head_nums) list_bytes_lem
@@ -178,14 +178,14 @@ module _ (b : List ℕ) (bytes : T (bytes_fit b)) (ok : bytes_fault b ≡ 0) whe
   bytes_rewritten =
       let f = (or_none (record_fault (head_record (is_old b)) b) _ ok).1 in
       ap frames as_read
-      ∙ ap (λ (x : List ℕ). framed (piece mark_gH (enc gh_widths g)) ++ x) (walk_back later (drop (6 + head_size b) b) (every_drop _ (6 + head_size b) b bytes) f)
+      ∙ ap (λ (x : List ℕ). framed (piece mark_gh (enc gh_widths g)) ++ x) (walk_back later (drop (6 + head_size b) b) (every_drop _ (6 + head_size b) b bytes) f)
 
   -- and GH too, unless it is an old one
   pub bytes_again : is_old b ≡ false → save_bytes (read_record b) (read_stores b) ≡ b
   unfolding save_bytes bytes_fault cut_up table_by table
   bytes_again new =
       ap frames as_read
-      ∙ ap (λ (x : List ℕ). frames (piece mark_gH x ∷ cut_up later (drop (6 + head_size b) b))) (enc_new (is_old b) (drop 6 b) new head_passed.room head_passed.bytes)
+      ∙ ap (λ (x : List ℕ). frames (piece mark_gh x ∷ cut_up later (drop (6 + head_size b) b))) (enc_new (is_old b) (drop 6 b) new head_passed.room head_passed.bytes)
       ∙ walk_back es b bytes ok
 
   -- ---- what is read is a study: stores of its lengths, and all that code holds
@@ -229,8 +229,8 @@ module _ (b : List ℕ) (bytes : T (bytes_fit b)) (ok : bytes_fault b ≡ 0) whe
   read_long =
       let h : List ℕ = enc gh_widths g in
       let wide : length h ≡ gh_length = length_enc gh_widths g (sym (long_by (is_old b) (drop 6 b))) ∙ gh_total in
-      let whole : length (framed (piece mark_gH h) ++ drop (6 + head_size b) b) ≡ save_length r = ap length (sym bytes_rewritten) ∙ save_long r (read_stores b) read_lengths in
-      omega (arith, wide, whole, length-append (framed (piece mark_gH h)) (drop (6 + head_size b) b), length_framed (piece mark_gH h), length-drop (6 + head_size b) b, head_passed.room, length-drop 6 b, size_least (is_old b))
+      let whole : length (framed (piece mark_gh h) ++ drop (6 + head_size b) b) ≡ save_length r = ap length (sym bytes_rewritten) ∙ save_long r (read_stores b) read_lengths in
+      omega (arith, wide, whole, length-append (framed (piece mark_gh h)) (drop (6 + head_size b) b), length_framed (piece mark_gh h), length-drop (6 + head_size b) b, head_passed.room, length-drop 6 b, size_least (is_old b))
 
   held : (m k : ℕ) (l : List ℕ) → Passed (expected m (8 * k) (all_fine k)) l → T (floats_fit (floats_of k l))
   held m k l q = floats_fit_lem k l q.room q.bytes
@@ -254,16 +254,16 @@ module _ (b : List ℕ) (bytes : T (bytes_fit b)) (ok : bytes_fault b ≡ 0) whe
       let small : get_or g 25 0 < 256 ^ 4 = fit_at gh_widths g 25 head_fit (omega arith) in
       omega arith
 
-  pub record-held : Held (read_record b)
+  pub record_held : Held (read_record b)
   unfolding read_record
-  record-held = entries-held g p steps_small
+  record_held = entries_held g p steps_small
 
   -- and nothing in its record means nothing
   pub read_canon : canon (read_record b) ≡ read_record b
   unfolding read_record
   read_canon =
       let rest : List ℕ = drop (ml_length * count) p in
-      sym (list_back r read_none record-held rest)
+      sym (list_back r read_none record_held rest)
       ∙ ap (λ (x : List ℕ). record_of x (list_bytes r ++ rest)) head_nums
       ∙ ap (λ (x : List ℕ). record_of g (x ++ rest)) list_bytes_lem
       ∙ ap (record_of g) (take-append-drop (ml_length * count) p)

@@ -21,7 +21,7 @@ use Rattle.heads.specs.Numbers.{gh_length, gh_nums}
 use Rattle.heads.specs.Payloads.{head_bytes, head_of, head_by, record_of}
 use Rattle.block.specs.Inner.Held.{Held}
 use Rattle.format.specs.Records.{Piece, piece, framed, frames, trailing, Expected, records_fault, payload_from}
-use Rattle.format.specs.Save.{mark_gH, list_bytes, pieces, save_bytes}
+use Rattle.format.specs.Save.{mark_gh, list_bytes, pieces, save_bytes}
 use Rattle.format.specs.Rewind.{is_old, save_head, bare, head_record, table, table_by, bytes_fault, payload_of, read_record, read_stores, rewind_fault}
 use Rattle.format.specs.InMemory.{StoresHeld}
 use Rattle.format.proofs.Walk.{Meets, AllMeet, met_frame, walk_met, walk_from}
@@ -69,7 +69,7 @@ module _ (r : Record) (s : Stores) (ok : fault_of r ≡ 0) (h : Held r) (fit : l
   met : AllMeet es ps
   met = subst (λ (t : List Expected). AllMeet t ps) (sym (own_table r s ok h fit k)) (table_met r s ok h fit k)
 
-  first_met : Meets (head_record false) (piece mark_gH (head_bytes r))
+  first_met : Meets (head_record false) (piece mark_gh (head_bytes r))
   unfolding table pieces AllMeet
   first_met = (table_met r s ok h fit k).0
 
@@ -77,20 +77,20 @@ module _ (r : Record) (s : Stores) (ok : fault_of r ≡ 0) (h : Held r) (fit : l
   later = frames (drop 1 ps)
 
   -- the save as its GH and what follows
-  as_first : save_bytes r s ≡ framed (piece mark_gH (head_bytes r)) ++ later
+  as_first : save_bytes r s ≡ framed (piece mark_gh (head_bytes r)) ++ later
   unfolding save_bytes frames pieces
   as_first = refl
 
   -- its GH is a new one
   module _ (rest : List ℕ) where
-    first_frame : frame_fault mark_gH gh_length (save_bytes r s ++ rest) ≡ 0
+    first_frame : frame_fault mark_gh gh_length (save_bytes r s ++ rest) ≡ 0
     first_frame =
-        ap (λ (x : List ℕ). frame_fault mark_gH gh_length (x ++ rest)) as_first
-        ∙ ap (frame_fault mark_gH gh_length) (append_assoc (framed (piece mark_gH (head_bytes r))) later rest)
+        ap (λ (x : List ℕ). frame_fault mark_gh gh_length (x ++ rest)) as_first
+        ∙ ap (frame_fault mark_gh gh_length) (append_assoc (framed (piece mark_gh (head_bytes r))) later rest)
         ∙ met_frame (head_record false) _ first_met (later ++ rest)
 
     pub saved_size : unle (part (save_bytes r s ++ rest) 2 4) ≡ gh_length
-    saved_size = frame_says mark_gH gh_length (save_bytes r s ++ rest) first_frame
+    saved_size = frame_says mark_gh gh_length (save_bytes r s ++ rest) first_frame
 
     pub saved_new : is_old (save_bytes r s ++ rest) ≡ false
     saved_new = is_new (save_bytes r s ++ rest) saved_size
@@ -175,8 +175,8 @@ module _ (r : Record) (s : Stores) (ok : fault_of r ≡ 0) (h : Held r) (fit : l
       ∙ ap (λ (n : Lengths). first (same_lengths (lengths_of s) n) bad_store 0) (sym fit)
       ∙ ap (λ (t : Bool). first t bad_store 0) (same_self (lengths_of s))
 
-  pub record-again : read_record (save_bytes r s) ≡ canon r
-  record-again = ap read_record (sym (append-nil (save_bytes r s))) ∙ saved_record []
+  pub record_again : read_record (save_bytes r s) ≡ canon r
+  record_again = ap read_record (sym (append-nil (save_bytes r s))) ∙ saved_record []
 
   pub stores_again : read_stores (save_bytes r s) ≡ s
   stores_again = ap read_stores (sym (append-nil (save_bytes r s))) ∙ saved_stores []

@@ -23,13 +23,13 @@ use Rattle.heads.specs.Numbers.{old_widths, old_length, gh_widths, gh_length, gh
 use Rattle.heads.specs.Payloads.{head_by}
 use Rattle.heads.proofs.Whole.{old_total, gh_total}
 use Rattle.format.specs.Records.{Piece, piece, framed, frames, trailing, Expected, record_fault, records_fault}
-use Rattle.format.specs.Save.{mark_gH, pieces, save_bytes}
+use Rattle.format.specs.Save.{mark_gh, pieces, save_bytes}
 use Rattle.format.specs.Rewind.{is_old, size_by, head_size, save_head, bare, head_good, head_record, list_record, store_records, table, table_by, table_of, bytes_fault, read_record, read_stores, rewind_fault}
 use Rattle.format.specs.Inner.Savable.{Savable}
 use Rattle.format.proofs.Walk.{Meets, AllMeet, meet_cons, met_payload, met_past, walk_met, walk_cut, walk_back, cut_up}
 use Rattle.format.proofs.Written.{table_met, own_table}
 use Rattle.format.proofs.Back.{saved_fault}
-use Rattle.format.proofs.Again.{read_none, read_lengths, record-held, stores_held, head_nums, as_read}
+use Rattle.format.proofs.Again.{read_none, read_lengths, record_held, stores_held, head_nums, as_read}
 use Rattle.format.proofs.Same.{save_fit}
 
 -- ---- a front of six bytes or more has the same length field
@@ -79,7 +79,7 @@ module _ (b : List ℕ) (bytes : T (bytes_fit b)) (ok : bytes_fault b ≡ 0) whe
       let r = read_record b in
       let s = read_stores b in
       let none = read_none b bytes ok in
-      let held = record-held b bytes ok in
+      let held = record_held b bytes ok in
       let fit = read_lengths b bytes ok in
       let kept = stores_held b bytes ok in
       let own : AllMeet (table_by false (gh_nums r)) (pieces r s) = subst (λ (t : List Expected). AllMeet t (pieces r s)) (sym (own_table r s none held fit kept)) (table_met r s none held fit kept) in
@@ -87,19 +87,19 @@ module _ (b : List ℕ) (bytes : T (bytes_fit b)) (ok : bytes_fault b ≡ 0) whe
       (subst (λ (x : List Piece). AllMeet (table_by false g) x) (as_read b bytes ok) same).1
 
   -- ---- and GH is as it was judged
-  frame_none : frame_fault mark_gH (head_size b) b ≡ 0
+  frame_none : frame_fault mark_gh (head_size b) b ≡ 0
   unfolding bytes_fault table_by table records_fault record_fault
-  frame_none = (or_none (frame_fault mark_gH (head_size b) b) _ (or_none (record_fault (head_record old) b) _ ok).0).0
+  frame_none = (or_none (frame_fault mark_gh (head_size b) b) _ (or_none (record_fault (head_record old) b) _ ok).0).0
 
   head_good_lem : head_good g ≡ true
   unfolding bytes_fault table_by table records_fault record_fault
-  head_good_lem = (first_none (head_good g) 14 0 (or_none (frame_fault mark_gH (head_size b) b) _ (or_none (record_fault (head_record old) b) _ ok).0).1).0
+  head_good_lem = (first_none (head_good g) 14 0 (or_none (frame_fault mark_gh (head_size b) b) _ (or_none (record_fault (head_record old) b) _ ok).0).1).0
 
   room : head_size b ≤ length (drop 6 b)
-  room = omega (arith, frame_room mark_gH (head_size b) b frame_none, length-drop 6 b)
+  room = omega (arith, frame_room mark_gh (head_size b) b frame_none, length-drop 6 b)
 
   abbrev head : Piece
-  head = piece mark_gH (take (head_size b) (drop 6 b))
+  head = piece mark_gh (take (head_size b) (drop 6 b))
 
   head_is : (r : List ℕ) → head_by old (head.payload ++ r) ≡ g
   head_is r = front_by old (drop 6 b) r room (every_drop _ 6 b bytes)
@@ -154,7 +154,7 @@ module _ (b : List ℕ) (bytes : T (bytes_fit b)) (ok : bytes_fault b ≡ 0) whe
     unfolding bytes_fault table_by table records_fault record_fault
     cut_early h l =
         ap (λ (o : Bool). records_fault (table_by o (head_by o (drop 6 cut))) cut) (front_old b n h (omega (arith, m)))
-        ∙ rw (frame_cut mark_gH (head_size b) b frame_none n l)
+        ∙ rw (frame_cut mark_gh (head_size b) b frame_none n l)
 
     -- after it
     cut_late : 6 + head_size b ≤ n → bytes_fault cut ≡ short
@@ -176,7 +176,7 @@ module _ (b : List ℕ) (bytes : T (bytes_fit b)) (ok : bytes_fault b ≡ 0) whe
   pub read_trailing : (x : ℕ) (more : List ℕ) → bytes_fault (b ++ (x ∷ more)) ≡ trailing
   read_trailing x more =
       let l : List ℕ = b ++ (x ∷ more) in
-      let six : 6 ≤ length b = omega (arith, frame_room mark_gH (head_size b) b frame_none) in
+      let six : 6 ≤ length b = omega (arith, frame_room mark_gh (head_size b) b frame_none) in
       let front : take (length b) l ≡ b = take_at b (x ∷ more) (length b) refl in
       let same : is_old l ≡ old = sym (front_old l (length b) six (omega (arith, length-append b (x ∷ more)))) ∙ ap is_old front in
       let begins : l ≡ framed head ++ (rest ++ (x ∷ more)) = ap (λ (y : List ℕ). y ++ (x ∷ more)) as_head ∙ append_assoc (framed head) rest (x ∷ more) in

@@ -13,8 +13,8 @@ use Rattle.format.specs.Save.{save_bytes}
 use Rattle.format.specs.Rewind.{is_old, bytes_fault, read_record, read_stores, rewind_fault}
 use Rattle.format.specs.ReadBack.{widened, ReadBack}
 use Rattle.format.specs.Inner.Savable.{Savable}
-use Rattle.format.proofs.Back.{saved_fault, record-again, stores_again}
-use Rattle.format.proofs.Again.{read_none, read_lengths, record-held, stores_held, read_canon, bytes_again}
+use Rattle.format.proofs.Back.{saved_fault, record_again, stores_again}
+use Rattle.format.proofs.Again.{read_none, read_lengths, record_held, stores_held, read_canon, bytes_again}
 use Rattle.format.proofs.Widened.{bytes_widened, read_zero}
 use Rattle.format.proofs.Cut.{read_cut, read_trailing}
 
@@ -27,7 +27,7 @@ module _ (b : List ℕ) (bytes : T (bytes_fit b)) (ok : bytes_fault b ≡ 0) whe
   s = read_stores b
 
   pub read_savable : Savable (read_record b) (read_stores b)
-  read_savable = record { ok = read_none b bytes ok; held = record-held b bytes ok; fit = read_lengths b bytes ok; kept = stores_held b bytes ok }
+  read_savable = record { ok = read_none b bytes ok; held = record_held b bytes ok; fit = read_lengths b bytes ok; kept = stores_held b bytes ok }
 
   -- an old save and its study's next one say one study
   one_study : is_old b ≡ true → (bytes_fault (widened b) ≡ 0) × (read_record (widened b) ≡ read_record b) × (read_stores (widened b) ≡ read_stores b)
@@ -35,7 +35,7 @@ module _ (b : List ℕ) (bytes : T (bytes_fit b)) (ok : bytes_fault b ≡ 0) whe
       let k = read_savable in
       let next = sym (bytes_widened b bytes ok old) in (
         ap bytes_fault (next ∙ sym (append-nil (save_bytes r s))) ∙ saved_fault r s k.ok k.held k.fit k.kept [],
-        ap read_record next ∙ record-again r s k.ok k.held k.fit k.kept ∙ read_canon b bytes ok,
+        ap read_record next ∙ record_again r s k.ok k.held k.fit k.kept ∙ read_canon b bytes ok,
         ap read_stores next ∙ stores_again r s k.ok k.held k.fit k.kept,
       )
 

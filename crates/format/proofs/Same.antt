@@ -23,7 +23,7 @@ use Rattle.format.specs.Records.{Piece, framed, frames}
 use Rattle.format.specs.Save.{list_bytes, pieces, save_bytes}
 use Rattle.format.specs.Rewind.{is_old, bytes_fault, read_record, read_stores}
 use Rattle.format.specs.InMemory.{StoresHeld}
-use Rattle.format.proofs.Back.{saved_fault, saved_new, record-again, stores_again}
+use Rattle.format.proofs.Back.{saved_fault, saved_new, record_again, stores_again}
 use Rattle.format.proofs.Again.{bytes_again}
 
 -- ---- what is written are bytes
@@ -63,11 +63,11 @@ module _ (r : Record) (s : Stores) (ok : fault_of r ≡ 0) (h : Held r) (fit : l
   -- what means nothing leaves no trace in a save
   pub canon_saves : save_bytes (canon r) s ≡ save_bytes r s
   canon_saves =
-      ap (λ (q : Record). save_bytes q s) (sym (record-again r s ok h fit k))
+      ap (λ (q : Record). save_bytes q s) (sym (record_again r s ok h fit k))
       ∙ ap (save_bytes (read_record (save_bytes r s))) (sym (stores_again r s ok h fit k))
       ∙ bytes_again (save_bytes r s) (save_fit r s) none new
 
   -- two studies with the same save are one study
   pub save_names : (r' : Record) (s' : Stores) → fault_of r' ≡ 0 → Held r' → lengths_of s' ≡ store_lengths r' → StoresHeld s' → save_bytes r s ≡ save_bytes r' s' → (canon r ≡ canon r') × (s ≡ s')
   save_names r' s' ok' h' fit' k' e =
-      (sym (record-again r s ok h fit k) ∙ ap read_record e ∙ record-again r' s' ok' h' fit' k', sym (stores_again r s ok h fit k) ∙ ap read_stores e ∙ stores_again r' s' ok' h' fit' k')
+      (sym (record_again r s ok h fit k) ∙ ap read_record e ∙ record_again r' s' ok' h' fit' k', sym (stores_again r s ok h fit k) ∙ ap read_stores e ∙ stores_again r' s' ok' h' fit' k')

@@ -17,7 +17,7 @@ use Rattle.grid.proofs.Tests.{or_none}
 use Rattle.heads.specs.Numbers.{old_length, gh_widths, gh_length, gh_of}
 use Rattle.heads.specs.Payloads.{head_by}
 use Rattle.format.specs.Records.{record_fault, records_fault}
-use Rattle.format.specs.Save.{mark_gH, save_bytes}
+use Rattle.format.specs.Save.{mark_gh, save_bytes}
 use Rattle.format.specs.Rewind.{is_old, size_by, save_head, head_record, table, table_by, bytes_fault, read_record, read_stores}
 use Rattle.format.specs.ReadBack.{widened}
 use Rattle.format.proofs.Old.{enc_old}
@@ -31,14 +31,14 @@ as_it_is l n m f t =
     sym (take-take 2 (6 + n) l (omega arith)) ∙ ap (take 2) (frame_bytes_lem m n l f t)
 
 module _ (b : List ℕ) (bytes : T (bytes_fit b)) (ok : bytes_fault b ≡ 0) (old : is_old b ≡ true) where
-  frame_none : frame_fault mark_gH old_length b ≡ 0
+  frame_none : frame_fault mark_gh old_length b ≡ 0
   unfolding bytes_fault table_by table records_fault record_fault
   frame_none =
       let f = (or_none (record_fault (head_record (is_old b)) b) _ ok).0 in
-      ap (λ (o : Bool). frame_fault mark_gH (size_by o) b) (sym old) ∙ (or_none (frame_fault mark_gH (size_by (is_old b)) b) _ f).0
+      ap (λ (o : Bool). frame_fault mark_gh (size_by o) b) (sym old) ∙ (or_none (frame_fault mark_gh (size_by (is_old b)) b) _ f).0
 
   room : 6 + old_length ≤ length b
-  room = frame_room mark_gH old_length b frame_none
+  room = frame_room mark_gh old_length b frame_none
 
   payload_is : enc gh_widths (save_head b) ≡ part b 6 old_length ++ (0 ∷ [])
   unfolding part
@@ -54,11 +54,11 @@ module _ (b : List ℕ) (bytes : T (bytes_fit b)) (ok : bytes_fault b ≡ 0) (ol
   unfolding rewritten enc
   is_widened =
       let rest : List ℕ = drop (6 + old_length) b in
-      ap (λ (o : Bool). (frame_bytes mark_gH (length (enc gh_widths (save_head b))) ++ enc gh_widths (save_head b)) ++ drop (6 + size_by o) b) old
-      ∙ ap (λ (p : List ℕ). (frame_bytes mark_gH (length p) ++ p) ++ rest) payload_is
-      ∙ ap (λ (n : ℕ). (frame_bytes mark_gH n ++ (part b 6 old_length ++ (0 ∷ []))) ++ rest) payload_long
-      ∙ joins (le 2 mark_gH) (le 4 gh_length) (part b 6 old_length) rest
-      ∙ ap (λ (x : List ℕ). x ++ le 4 gh_length ++ part b 6 old_length ++ (0 ∷ rest)) (sym (as_it_is b old_length mark_gH frame_none bytes))
+      ap (λ (o : Bool). (frame_bytes mark_gh (length (enc gh_widths (save_head b))) ++ enc gh_widths (save_head b)) ++ drop (6 + size_by o) b) old
+      ∙ ap (λ (p : List ℕ). (frame_bytes mark_gh (length p) ++ p) ++ rest) payload_is
+      ∙ ap (λ (n : ℕ). (frame_bytes mark_gh n ++ (part b 6 old_length ++ (0 ∷ []))) ++ rest) payload_long
+      ∙ joins (le 2 mark_gh) (le 4 gh_length) (part b 6 old_length) rest
+      ∙ ap (λ (x : List ℕ). x ++ le 4 gh_length ++ part b 6 old_length ++ (0 ∷ rest)) (sym (as_it_is b old_length mark_gh frame_none bytes))
     where
       joins : (x y p l : List ℕ) → ((x ++ (y ++ [])) ++ (p ++ (0 ∷ []))) ++ l ≡ x ++ y ++ p ++ (0 ∷ l)
       joins x y p l =

@@ -32,7 +32,7 @@ use Rattle.heads.proofs.Whole.{gh_long, ml_long, gh_total, ml_total}
 use Rattle.block.specs.Inner.Held.{Held}
 use Rattle.block.proofs.Entry.{material_fine}
 use Rattle.block.proofs.Head.{head_fit, head_fine, head_back}
-use Rattle.block.proofs.Counted.{entry_is, record-back}
+use Rattle.block.proofs.Counted.{entry_is, record_back}
 use Rattle.format.specs.Records.{Piece, piece, framed, frames}
 use Rattle.format.specs.Save.{list_bytes, pieces, save_bytes, save_length}
 use Rattle.format.specs.Rewind.{bare, head_good, list_good, floats_record, table, table_by}
@@ -144,7 +144,7 @@ module _ (r : Record) (ok : fault_of r ≡ 0) (h : Held r) where
         ∙ part_block count i ml_length (λ c. material_bytes (material c)) l (λ c _. material_long (material c))
 
     pub list_back : record_of (gh_nums r) p ≡ canon r
-    list_back = record-back r ok h p entry_part
+    list_back = record_back r ok h p entry_part
 
     list_good_lem : list_good (gh_nums r) p ≡ true
     unfolding list_good gh_nums

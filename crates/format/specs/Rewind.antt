@@ -10,7 +10,7 @@ use Rattle.grid.specs.Stores.{Stores, Outcome, store_lengths, lengths_of, same_l
 use Rattle.heads.specs.Numbers.{old_length, gh_length, gh_fine, gh_of, ml_length, ml_fine}
 use Rattle.heads.specs.Payloads.{head_by, count_of, entry_at, record_of}
 use Rattle.format.specs.Records.{Expected, expected, records_fault, payload_from}
-use Rattle.format.specs.Save.{mark_gH, mark_mL, mark_cI, mark_cM, mark_fE, mark_fH, mark_lE, mark_lH, mark_lT, mark_pP, mark_aX}
+use Rattle.format.specs.Save.{mark_gh, mark_ml, mark_ci, mark_cm, mark_fe, mark_fh, mark_le, mark_lh, mark_lt, mark_pp, mark_ax}
 
 -- ---- a save from before document 02's S-7: the length field of its first record, GH, says 73
 unfoldable pub is_old : List ℕ → Bool
@@ -41,13 +41,13 @@ list_good g p = all_below (λ i. ml_fine (entry_at p i)) (count_of g) && eqb (fa
 
 -- ---- the eleven records to come: a store's length is the one that GH's sizes give it, and ids may be any u32
 abbrev pub head_record : (old : Bool) → Expected
-head_record old = expected mark_gH (size_by old) (λ p. head_good (head_by old p))
+head_record old = expected mark_gh (size_by old) (λ p. head_good (head_by old p))
 
 abbrev pub list_record : List ℕ → Expected
-list_record g = expected mark_mL (ml_length * count_of g) (list_good g)
+list_record g = expected mark_ml (ml_length * count_of g) (list_good g)
 
 abbrev pub ids_record : ℕ → Expected
-ids_record n = expected mark_cI (4 * n) (λ _. true)
+ids_record n = expected mark_ci (4 * n) (λ _. true)
 
 abbrev pub floats_record : ℕ → ℕ → Expected
 floats_record mark n = expected mark (8 * n) (all_fine n)
@@ -55,14 +55,14 @@ floats_record mark n = expected mark (8 * n) (all_fine n)
 abbrev pub store_records : Lengths → List Expected
 store_records n =
     ids_record n.ids
-    ∷ floats_record mark_cM n.media
-    ∷ floats_record mark_fE n.electric
-    ∷ floats_record mark_fH n.magnetic
-    ∷ floats_record mark_lE n.psi_e
-    ∷ floats_record mark_lH n.psi_h
-    ∷ floats_record mark_lT n.tables
-    ∷ floats_record mark_pP n.poles
-    ∷ floats_record mark_aX n.aux
+    ∷ floats_record mark_cm n.media
+    ∷ floats_record mark_fe n.electric
+    ∷ floats_record mark_fh n.magnetic
+    ∷ floats_record mark_le n.psi_e
+    ∷ floats_record mark_lh n.psi_h
+    ∷ floats_record mark_lt n.tables
+    ∷ floats_record mark_pp n.poles
+    ∷ floats_record mark_ax n.aux
     ∷ []
 
 unfoldable pub table : (old : Bool) → List ℕ → Lengths → List Expected

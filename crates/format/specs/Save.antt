@@ -14,44 +14,44 @@ use Rattle.format.specs.Records.{Piece, piece, frames}
 abbrev pub letters : ℕ → ℕ → ℕ
 letters a b = a + 256 * b
 
-abbrev pub mark_gH : ℕ
-mark_gH = letters 71 72
+abbrev pub mark_gh : ℕ
+mark_gh = letters 71 72
 
-abbrev pub mark_mL : ℕ
-mark_mL = letters 77 76
+abbrev pub mark_ml : ℕ
+mark_ml = letters 77 76
 
-abbrev pub mark_cI : ℕ
-mark_cI = letters 67 73
+abbrev pub mark_ci : ℕ
+mark_ci = letters 67 73
 
-abbrev pub mark_cM : ℕ
-mark_cM = letters 67 77
+abbrev pub mark_cm : ℕ
+mark_cm = letters 67 77
 
-abbrev pub mark_fE : ℕ
-mark_fE = letters 70 69
+abbrev pub mark_fe : ℕ
+mark_fe = letters 70 69
 
-abbrev pub mark_fH : ℕ
-mark_fH = letters 70 72
+abbrev pub mark_fh : ℕ
+mark_fh = letters 70 72
 
-abbrev pub mark_lE : ℕ
-mark_lE = letters 76 69
+abbrev pub mark_le : ℕ
+mark_le = letters 76 69
 
-abbrev pub mark_lH : ℕ
-mark_lH = letters 76 72
+abbrev pub mark_lh : ℕ
+mark_lh = letters 76 72
 
-abbrev pub mark_lT : ℕ
-mark_lT = letters 76 84
+abbrev pub mark_lt : ℕ
+mark_lt = letters 76 84
 
-abbrev pub mark_pP : ℕ
-mark_pP = letters 80 80
+abbrev pub mark_pp : ℕ
+mark_pp = letters 80 80
 
-abbrev pub mark_aX : ℕ
-mark_aX = letters 65 88
+abbrev pub mark_ax : ℕ
+mark_ax = letters 65 88
 
 -- ---- the eleven records
 abbrev pub eleven : (gh ml ci cm fe fh le lh lt pp ax : List ℕ) → List Piece
 eleven gh ml ci cm fe fh le lh lt pp ax =
-    piece mark_gH gh ∷ piece mark_mL ml ∷ piece mark_cI ci ∷ piece mark_cM cm ∷ piece mark_fE fe ∷ piece mark_fH fh
-    ∷ piece mark_lE le ∷ piece mark_lH lh ∷ piece mark_lT lt ∷ piece mark_pP pp ∷ piece mark_aX ax ∷ []
+    piece mark_gh gh ∷ piece mark_ml ml ∷ piece mark_ci ci ∷ piece mark_cm cm ∷ piece mark_fe fe ∷ piece mark_fh fh
+    ∷ piece mark_le le ∷ piece mark_lh lh ∷ piece mark_lt lt ∷ piece mark_pp pp ∷ piece mark_ax ax ∷ []
 
 -- ML: the counted materials, one after another
 unfoldable pub list_bytes : Record → List ℕ

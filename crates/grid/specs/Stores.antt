@@ -7,7 +7,7 @@ use Rattle.grid.specs.declared.stores.Lengths.{Lengths}
 use Rattle.grid.specs.Fault.{fault_of, first}
 
 -- Each store is several lists of one number a cell, one after another. electric: ex, ey, ez. magnetic: hx, hy, hz. media (document 01's cell numbers): eps_r, mu_r,
--- sigma. psiE, psiH: the layer's memories Exy, Exz, Eyz, Eyx, Ezx, Ezy and Hxy, .. alike. poles, for S pole slots (document 01's P): p by slot and component, p_prev alike, dp. ids: of
+-- sigma. psi_e, psiH: the layer's memories Exy, Exz, Eyz, Eyx, Ezx, Ezy and Hxy, .. alike. poles, for S pole slots (document 01's P): p by slot and component, p_prev alike, dp. ids: of
 -- each cell the number of its material. Not by cells: tables, of each axis kinv_e, b_e, c_e, kinv_h, b_h, c_h; aux, the auxiliary line's ex and hy.
 pub record Stores : Type 0 where
   pub electric : List Float

@@ -32,20 +32,20 @@ use Rattle.heads.specs.Numbers.{gh_widths, gh_fine, gh_of, ml_length, ml_fine}
 use Rattle.heads.specs.Payloads.{head_by, count_of, entry_of, entry_at}
 use Rattle.heads.proofs.Listed.{entry_at_lem}
 use Rattle.format.specs.Records.{Expected, expected, record_fault, records_fault, trailing}
-use Rattle.format.specs.Save.{mark_cM, mark_fE, mark_fH, mark_lE, mark_lH, mark_lT, mark_pP, mark_aX}
+use Rattle.format.specs.Save.{mark_cm, mark_fe, mark_fh, mark_le, mark_lh, mark_lt, mark_pp, mark_ax}
 use Rattle.format.specs.Rewind.{is_old, size_by, bare, head_good, head_record, list_record, ids_record, floats_record, store_records, table, table_by, bytes_fault}
 use Rattle.format.proofs.Old.{fit_by}
 use Rattle.judge.specs.Inner.Places.{passed_by, judged_at, float_records, Few, Small}
 
 -- ---- one record at a place
 module _ (e : Expected) (b : List ℕ) (at f : ℕ) (p : f ≡ frame_fault e.mark e.size (drop at b)) where
-  pub record-stays : (f ≡ 0 → ⊥) → f ≡ record_fault e (drop at b)
+  pub record_stays : (f ≡ 0 → ⊥) → f ≡ record_fault e (drop at b)
   unfolding record_fault
-  record-stays h = or_stays f (frame_fault e.mark e.size (drop at b)) _ p h
+  record_stays h = or_stays f (frame_fault e.mark e.size (drop at b)) _ p h
 
-  pub record-goes : (t : Bool) (k : ℕ) → f ≡ 0 → t ≡ e.test (drop (at + 6) b) → k ≡ first t bad_record 0 → k ≡ record_fault e (drop at b)
+  pub record_goes : (t : Bool) (k : ℕ) → f ≡ 0 → t ≡ e.test (drop (at + 6) b) → k ≡ first t bad_record 0 → k ≡ record_fault e (drop at b)
   unfolding record_fault
-  record-goes t k h q r =
+  record_goes t k h q r =
       or_goes f (frame_fault e.mark e.size (drop at b)) _ k p h
       (r ∙ ap (λ (u : Bool). first u bad_record 0) (q ∙ ap e.test (sym (drop-drop 6 at b))))
 
@@ -53,9 +53,9 @@ module _ (e : Expected) (b : List ℕ) (at f : ℕ) (p : f ≡ frame_fault e.mar
   pub frame_left : f ≡ 0 → at ≤ length b → at + 6 + e.size ≤ length b
   frame_left h l = omega (arith, frame_room e.mark e.size (drop at b) (sym p ∙ h), length-drop at b, l)
 
-pub record-left : (e : Expected) (b : List ℕ) (at f : ℕ) → f ≡ record_fault e (drop at b) → f ≡ 0 → at ≤ length b → at + (6 + e.size) ≤ length b
+pub record_left : (e : Expected) (b : List ℕ) (at f : ℕ) → f ≡ record_fault e (drop at b) → f ≡ 0 → at ≤ length b → at + (6 + e.size) ≤ length b
 unfolding record_fault
-record-left e b at f p h l =
+record_left e b at f p h l =
     let z = or_none (frame_fault e.mark e.size (drop at b)) _ (sym p ∙ h) in
     omega (arith, frame_room e.mark e.size (drop at b) z.0, length-drop at b, l)
 
@@ -65,7 +65,7 @@ module _ (e : Expected) (b : List ℕ) (at : ℕ) (t : Taken) (own : t ≡ taken
   unfolding judged_at
   frame_bad f h =
       let z = fault_told b at e.mark e.size t f own h in
-      of_fault f at e.size z.1 ∙ ap (λ (k : ℕ). taken_by k at e.size) (record-stays e b at f z.0 z.1)
+      of_fault f at e.size z.1 ∙ ap (λ (k : ℕ). taken_by k at e.size) (record_stays e b at f z.0 z.1)
 
   module _ (p q : ℕ) (h : t ≡ At p q) where
     abbrev told : (0 ≡ frame_fault e.mark e.size (drop at b)) × (p ≡ at + 6) × (q ≡ at + 6 + e.size)
@@ -76,7 +76,7 @@ module _ (e : Expected) (b : List ℕ) (at : ℕ) (t : Taken) (own : t ≡ taken
     frame_well good u w r = r ∙ go good (w ∙ ap (λ (i : ℕ). e.test (drop i b)) told.1)
       where
         same : (x : Bool) (k : ℕ) → x ≡ e.test (drop (at + 6) b) → k ≡ first x bad_record 0 → taken_by k at e.size ≡ taken_by (record_fault e (drop at b)) at e.size
-        same x k i j = ap (λ (m : ℕ). taken_by m at e.size) (record-goes e b at 0 told.0 x k refl i j)
+        same x k i j = ap (λ (m : ℕ). taken_by m at e.size) (record_goes e b at 0 told.0 x k refl i j)
 
         go : (x : Bool) → x ≡ e.test (drop (at + 6) b) → passed_by x p q ≡ taken_by (record_fault e (drop at b)) at e.size
         go true i = ap (λ (x : ℕ). At x q) told.1 ∙ ap (At (at + 6)) told.2 ∙ same true 0 i refl
@@ -118,7 +118,7 @@ module _ (e : Expected) (b : List ℕ) (at : ℕ) (t : Taken) (own : t ≡ judge
         (w ∙ ap (λ (i : ℕ). records_fault es (drop i b)) place ∙ ap (records_fault es) (sym (drop-drop (6 + e.size) at b)))
 
     pub walk_room : at ≤ length b → q ≤ length b
-    walk_room l = omega (arith, fine.2, record-left e b at 0 fine.0 refl l)
+    walk_room l = omega (arith, fine.2, record_left e b at 0 fine.0 refl l)
 
 -- ---- GH
 pub steps_small : (old : Bool) (b : List ℕ) → 6 + size_by old ≤ length b → ((i : ℕ) → get_or b i 0 < 256) → get_or (head_by old (drop 6 b)) 25 0 ≤ 4294967295
@@ -132,7 +132,7 @@ module _ (old : Bool) (b : List ℕ) (f : ℕ) (p : f ≡ record_fault (head_rec
   own_head = head_by old (drop 6 b)
 
   pub head_room : 6 + size_by old ≤ length b
-  head_room = omega (arith, record-left (head_record old) b 0 f p h (omega arith))
+  head_room = omega (arith, record_left (head_record old) b 0 f p h (omega arith))
 
   head_none : fault_of (bare own_head) ≡ 0
   unfolding record_fault head_good
@@ -204,7 +204,7 @@ module _ (ms ns b : List ℕ) where
         over false e = sym (ne_eqb (length (drop at b)) 0 (λ z. eqb-false at (length b) e (omega (arith, length-drop at b, z, k))))
 
 abbrev eight_marks : List ℕ
-eight_marks = mark_cM ∷ mark_fE ∷ mark_fH ∷ mark_lE ∷ mark_lH ∷ mark_lT ∷ mark_pP ∷ mark_aX ∷ []
+eight_marks = mark_cm ∷ mark_fe ∷ mark_fh ∷ mark_le ∷ mark_lh ∷ mark_lt ∷ mark_pp ∷ mark_ax ∷ []
 
 abbrev eight_counts : Lengths → List ℕ
 eight_counts n = n.media ∷ n.electric ∷ n.magnetic ∷ n.psi_e ∷ n.psi_h ∷ n.tables ∷ n.poles ∷ n.aux ∷ []

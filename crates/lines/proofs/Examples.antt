@@ -5,11 +5,11 @@ use mathlib.Core.List.{List, [], ◌∷◌, ◌++◌}
 use Rattle.lines.specs.Listing.{hex_digits, hex, decimal_in, decimal, line, head_line, cell_line, refused_line}
 
 -- study 1 1 1 steps 0 materials 1
-pub first-line :
+pub first_line :
     head_line 1 1 1 0 1
     ≡ 115 ∷ 116 ∷ 117 ∷ 100 ∷ 121 ∷ 32 ∷ 49 ∷ 32 ∷ 49 ∷ 32 ∷ 49 ∷ 32 ∷ 115 ∷ 116 ∷ 101 ∷ 112 ∷ 115 ∷ 32 ∷ 48 ∷ 32 ∷ 109 ∷ 97 ∷ 116 ∷ 101 ∷ 114 ∷ 105 ∷ 97 ∷ 108 ∷ 115 ∷ 32 ∷ 49 ∷ 10 ∷ []
 unfolding head_line line decimal decimal_in
-first-line = refl
+first_line = refl
 
 -- a blank and sixteen zeros
 abbrev zeros : List ℕ

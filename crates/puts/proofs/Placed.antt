@@ -26,7 +26,7 @@ use Rattle.cpml.proofs.Memories.{part_in, either_long, memory_in_order}
 use Rattle.format.specs.Records.{Piece, piece, framed, frames}
 use Rattle.heads.specs.Numbers.{ml_length}
 use Rattle.heads.specs.Payloads.{head_bytes, material_bytes}
-use Rattle.format.specs.Save.{mark_gH, mark_mL, mark_cI, mark_cM, mark_fE, mark_fH, mark_lE, mark_lH, mark_lT, mark_pP, mark_aX, list_bytes, pieces, save_bytes}
+use Rattle.format.specs.Save.{mark_gh, mark_ml, mark_ci, mark_cm, mark_fe, mark_fh, mark_le, mark_lh, mark_lt, mark_pp, mark_ax, list_bytes, pieces, save_bytes}
 use Rattle.puts.specs.Inner.Places.{list_place, stores_place}
 use Rattle.puts.specs.Inner.Room.{Roomy}
 use Rattle.format.proofs.Written.{extent, frames_long, floats_long, ids_long, head_long, material_long, list_long}
@@ -141,19 +141,19 @@ list_all s t at i r p e = joined_all s t at i r.material_count (λ k. material_b
 -- ---- the whole save, in five goes
 module _ (r : Record) (s : Stores) where
   abbrev heads : List Piece
-  heads = piece mark_gH (head_bytes r) ∷ []
+  heads = piece mark_gh (head_bytes r) ∷ []
 
   abbrev lists : List Piece
-  lists = piece mark_mL (list_bytes r) ∷ []
+  lists = piece mark_ml (list_bytes r) ∷ []
 
   abbrev cellular : List Piece
-  cellular = piece mark_cI (ids_bytes s.ids) ∷ piece mark_cM (floats_bytes s.media) ∷ piece mark_fE (floats_bytes s.electric) ∷ piece mark_fH (floats_bytes s.magnetic) ∷ []
+  cellular = piece mark_ci (ids_bytes s.ids) ∷ piece mark_cm (floats_bytes s.media) ∷ piece mark_fe (floats_bytes s.electric) ∷ piece mark_fh (floats_bytes s.magnetic) ∷ []
 
   abbrev layered : List Piece
-  layered = piece mark_lE (floats_bytes s.psi_e) ∷ piece mark_lH (floats_bytes s.psi_h) ∷ piece mark_lT (floats_bytes s.tables) ∷ []
+  layered = piece mark_le (floats_bytes s.psi_e) ∷ piece mark_lh (floats_bytes s.psi_h) ∷ piece mark_lt (floats_bytes s.tables) ∷ []
 
   abbrev ends : List Piece
-  ends = piece mark_pP (floats_bytes s.poles) ∷ piece mark_aX (floats_bytes s.aux) ∷ []
+  ends = piece mark_pp (floats_bytes s.poles) ∷ piece mark_ax (floats_bytes s.aux) ∷ []
 
   abbrev n_cells : ℕ
   n_cells = 24 + 4 * length s.ids + 8 * length s.media + 8 * length s.electric + 8 * length s.magnetic

@@ -9,7 +9,7 @@ ghost use Rattle.cpml.specs.Memory.{memory_of};
 ghost use Rattle.heads.specs.Numbers.{ml_length};
 ghost use Rattle.heads.specs.Payloads.{head_bytes};
 ghost use Rattle.format.specs.Records.{piece, frames};
-ghost use Rattle.format.specs.Save.{mark_gH, mark_mL, mark_cI, mark_cM, mark_fE, mark_fH, mark_lE, mark_lH, mark_lT, mark_pP, mark_aX, list_bytes, save_bytes};
+ghost use Rattle.format.specs.Save.{mark_gh, mark_ml, mark_ci, mark_cm, mark_fe, mark_fh, mark_le, mark_lh, mark_lt, mark_pp, mark_ax, list_bytes, save_bytes};
 ghost use Rattle.puts.specs.Inner.Places.{list_place, stores_place};
 ghost use Rattle.puts.specs.Inner.Room.{Roomy};
 
@@ -37,7 +37,7 @@ fn put_floats(out: &mut [u8], at: usize, mark: u16, xs: &[f64]) -> usize
 
 fn put_ids(out: &mut [u8], at: usize, ids: &[u32]) -> usize
     requires { (at + (6 + 4 * length ids.now) ≤ length out.old) × (length ids.now ≤ 28311552) }
-    ensures { (result ≡ at + (6 + 4 * length ids.now)) × (out.new ≡ put out.old at (frames (piece mark_cI (ids_bytes ids.now) ∷ []))) }
+    ensures { (result ≡ at + (6 + 4 * length ids.now)) × (out.new ≡ put out.old at (frames (piece mark_ci (ids_bytes ids.now) ∷ []))) }
 {
     let n = 4 * ids.len();
     frame::put_frame(out, at, CI, n as u32);
@@ -61,7 +61,7 @@ fn put_list(out: &mut [u8], at: usize, r: Record)
 
 fn put_head(out: &mut [u8], r: Record)
     requires { list_place ≤ length out.old }
-    ensures { out.new ≡ put out.old 0 (frames (piece mark_gH (head_bytes r) ∷ [])) }
+    ensures { out.new ≡ put out.old 0 (frames (piece mark_gh (head_bytes r) ∷ [])) }
 {
     frame::put_frame(out, 0, GH, GH_LENGTH as u32);
     payloads::put_gh(out, 6, r);
@@ -69,7 +69,7 @@ fn put_head(out: &mut [u8], r: Record)
 
 fn put_materials(out: &mut [u8], r: Record) -> usize
     requires { (stores_place r.material_count ≤ length out.old) × (r.material_count ≤ 16) }
-    ensures { (result ≡ stores_place r.material_count) × (out.new ≡ put out.old list_place (frames (piece mark_mL (list_bytes r) ∷ []))) }
+    ensures { (result ≡ stores_place r.material_count) × (out.new ≡ put out.old list_place (frames (piece mark_ml (list_bytes r) ∷ []))) }
 {
     let n = ML_LENGTH * r.material_count;
     frame::put_frame(out, LIST_PLACE, ML, n as u32);
@@ -80,7 +80,7 @@ fn put_materials(out: &mut [u8], r: Record) -> usize
 // CI, CM, FE, FH.
 fn put_cells(out: &mut [u8], at: usize, ids: &[u32], media: &[f64], e: &[f64], h: &[f64]) -> usize
     requires { (at + (24 + 4 * length ids.now + 8 * length media.now + 8 * length e.now + 8 * length h.now) ≤ length out.old) × (length ids.now ≤ 28311552) × (length media.now ≤ 28311552) × (length e.now ≤ 28311552) × (length h.now ≤ 28311552) }
-    ensures { (result ≡ at + (24 + 4 * length ids.now + 8 * length media.now + 8 * length e.now + 8 * length h.now)) × (out.new ≡ put out.old at (frames (piece mark_cI (ids_bytes ids.now) ∷ piece mark_cM (floats_bytes media.now) ∷ piece mark_fE (floats_bytes e.now) ∷ piece mark_fH (floats_bytes h.now) ∷ []))) }
+    ensures { (result ≡ at + (24 + 4 * length ids.now + 8 * length media.now + 8 * length e.now + 8 * length h.now)) × (out.new ≡ put out.old at (frames (piece mark_ci (ids_bytes ids.now) ∷ piece mark_cm (floats_bytes media.now) ∷ piece mark_fe (floats_bytes e.now) ∷ piece mark_fh (floats_bytes h.now) ∷ []))) }
 {
     let p = put_ids(out, at, ids);
     let q = put_floats(out, p, CM, media);
@@ -153,7 +153,7 @@ fn put_layer<'a>(
     n: usize,
 ) -> usize
     requires { (at + (18 + 8 * length psi_e.now + 8 * length psi_h.now + 8 * length tables.now) ≤ length out.old) × (length psi_e.now ≡ 6 * n) × (length psi_h.now ≡ 6 * n) × (6 * n ≤ 28311552) × (length tables.now ≤ 28311552) }
-    ensures { (result ≡ at + (18 + 8 * length psi_e.now + 8 * length psi_h.now + 8 * length tables.now)) × (out.new ≡ put out.old at (frames (piece mark_lE (floats_bytes psi_e.now) ∷ piece mark_lH (floats_bytes psi_h.now) ∷ piece mark_lT (floats_bytes tables.now) ∷ []))) }
+    ensures { (result ≡ at + (18 + 8 * length psi_e.now + 8 * length psi_h.now + 8 * length tables.now)) × (out.new ≡ put out.old at (frames (piece mark_le (floats_bytes psi_e.now) ∷ piece mark_lh (floats_bytes psi_h.now) ∷ piece mark_lt (floats_bytes tables.now) ∷ []))) }
 {
     let p = put_memories(out, at, LE, true, psi_e, psi_h, n);
     let q = put_memories(out, p, LH, false, psi_e, psi_h, n);
@@ -163,7 +163,7 @@ fn put_layer<'a>(
 // PP, AX.
 fn put_ends(out: &mut [u8], at: usize, poles: &[f64], aux: &[f64])
     requires { (at + (12 + 8 * length poles.now + 8 * length aux.now) ≤ length out.old) × (length poles.now ≤ 28311552) × (length aux.now ≤ 28311552) }
-    ensures { out.new ≡ put out.old at (frames (piece mark_pP (floats_bytes poles.now) ∷ piece mark_aX (floats_bytes aux.now) ∷ [])) }
+    ensures { out.new ≡ put out.old at (frames (piece mark_pp (floats_bytes poles.now) ∷ piece mark_ax (floats_bytes aux.now) ∷ [])) }
 {
     let p = put_floats(out, at, PP, poles);
     put_floats(out, p, AX, aux);

@@ -72,7 +72,7 @@ root_of (fin true (suc m) e) = nan
 root_of (fin false (suc m) e) = rounded_root (fin false (suc m) e)
 
 -- What `root` answers: the root by its definition, and the value that formulas name. `unique` (proofs/Unique.antt) shows that no
--- other r is a root of x, and `root_right` (proofs/Computed.antt) that rootOf x is one.
+-- other r is a root of x, and `root_right` (proofs/Computed.antt) that root_of x is one.
 pub record Rooted (x r : Float) : Type 0 where
   pub right : IsRoot x r
   pub is : r ≡ root_of x

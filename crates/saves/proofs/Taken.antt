@@ -26,7 +26,7 @@ use Rattle.saves.specs.Inner.Places.{list_from, entries_from, stores_from, store
 use Rattle.format.proofs.Bare.{bare_lengths}
 use Rattle.format.proofs.Back.{nine_same}
 use Rattle.format.proofs.Again.{read_none, read_long}
-use Rattle.judge.proofs.Judged.{head_room, head_count, record-left}
+use Rattle.judge.proofs.Judged.{head_room, head_count, record_left}
 use Rattle.saves.proofs.Called.{RoomFor, roomy}
 
 pub all_bytes : (b : List ℕ) → ((i : ℕ) → get_or b i 0 < 256) → T (bytes_fit b)
@@ -47,7 +47,7 @@ module _ (b : List ℕ) (ok : bytes_fault b ≡ 0) where
   ml_few = head_count (is_old b) b 0 (sym parts.0) refl
 
   pub ml_room : stores_from (is_old b) (count_of (save_head b)) ≤ length b
-  ml_room = omega (arith, record-left (list_record (save_head b)) b (list_from (is_old b)) 0 (sym parts.1) refl gh_room)
+  ml_room = omega (arith, record_left (list_record (save_head b)) b (list_from (is_old b)) 0 (sym parts.1) refl gh_room)
 
   -- the same where code asked which length GH has
   module _ (old : Bool) (which : old ≡ is_old b) where
@@ -61,16 +61,16 @@ module _ (b : List ℕ) (ok : bytes_fault b ≡ 0) where
           subst (λ (x : List ℕ). count_of x ≤ 16) (sym same) ml_few,
         )
 
-pub record-read : (b : List ℕ) → record_of (save_head b) (drop (entries_from (is_old b)) b) ≡ read_record b
+pub record_read : (b : List ℕ) → record_of (save_head b) (drop (entries_from (is_old b)) b) ≡ read_record b
 unfolding read_record table_by table payload_from
-record-read b = ap (record_of (save_head b)) (sym (drop-drop 6 (list_from (is_old b)) b))
+record_read b = ap (record_of (save_head b)) (sym (drop-drop 6 (list_from (is_old b)) b))
 
-pub record-there : (b : List ℕ) (old : Bool) (g : List ℕ) (at : ℕ) → old ≡ is_old b → g ≡ head_by old (drop 6 b) → at ≡ entries_from old → record_of g (drop at b) ≡ read_record b
-record-there b old g at which e p =
+pub record_there : (b : List ℕ) (old : Bool) (g : List ℕ) (at : ℕ) → old ≡ is_old b → g ≡ head_by old (drop 6 b) → at ≡ entries_from old → record_of g (drop at b) ≡ read_record b
+record_there b old g at which e p =
     ap (λ (x : List ℕ). record_of x (drop at b)) e
     ∙ ap (λ (k : ℕ). record_of (head_by old (drop 6 b)) (drop k b)) p
     ∙ ap (λ (o : Bool). record_of (head_by o (drop 6 b)) (drop (entries_from o) b)) which
-    ∙ record-read b
+    ∙ record_read b
 
 -- ---- the stores
 place_of : List Expected → ℕ → ℕ

@@ -13,7 +13,7 @@ pub use Rattle.halves.specs.Parts.{waved}
 unfoldable pub use Rattle.halves.specs.Parts.{line_mid, corrected_h, corrected_e, line_end, poles_stepped}
 
 -- ---- the stores after a step: E at n and H at n - 1/2 become E at n + 1 and H at n + 1/2. line then has ex at n and hy at n + 1/2; the sample is what the source gives
--- at n + 1. Both parts of a half step take the old memories: the ψ in the field's curl is the one that psiAfter stores
+-- at n + 1. Both parts of a half step take the old memories: the ψ in the field's curl is the one that psi_after stores
 unfoldable pub stepped : (eps0 mu0 c0 : Float) → Record → (sample : Float) → Stores → Stores
 stepped eps0 mu0 c0 r sample s =
     let line = line_mid mu0 r s.aux in

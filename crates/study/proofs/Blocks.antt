@@ -26,7 +26,7 @@ use Rattle.heads.specs.Payloads.{head_bytes, material_bytes}
 use Rattle.block.specs.Inner.Held.{held, Held}
 use Rattle.block.specs.Block.{block_fine, block_record, entry_bytes, block_of, clock_put}
 use Rattle.block.proofs.Turns.{block_long}
-use Rattle.block.proofs.Back.{fine_block, record-block}
+use Rattle.block.proofs.Back.{fine_block, record_block}
 use Rattle.block.proofs.Clock.{clock_fine, clock_record}
 use Rattle.block.proofs.Decoded.{block_held}
 use Rattle.format.proofs.Same.{joined_fit}
@@ -59,7 +59,7 @@ study_none w e = ap (λ (t : Bool). if_fine t (record { rec = canon (block_recor
 pub study_put : (v : World) (r : Record) → fault_of r ≡ 0 → Held r → v.block ≡ block_of r → study_of v ≡ some (record { rec = canon r; kept = v.kept })
 study_put v r ok h e =
     study_fine v (ap block_fine e ∙ fine_block r ok h)
-    ∙ ap {B = Option Study} (λ (q : Record). some (record { rec = q; kept = v.kept })) (ap canon (ap block_record e ∙ record-block r ok h) ∙ canon_twice r)
+    ∙ ap {B = Option Study} (λ (q : Record). some (record { rec = q; kept = v.kept })) (ap canon (ap block_record e ∙ record_block r ok h) ∙ canon_twice r)
 
 -- a block in which another clock was put says the record of before with that clock
 pub study_clock : (w v : World) (q : Record) → block_fine w.block ≡ true → T (held q.clock.time) → q.clock.steps < 4294967296 →

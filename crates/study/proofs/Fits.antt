@@ -26,7 +26,7 @@ use Rattle.boundary.specs.declared.LossyAbsorber.{LossyAbsorber}
 use Rattle.boundary.specs.Lossy.{wall_sigma, stronger, strongest, graded_sigma, lossy_sigma, no_wall, lossy_media}
 use Rattle.ade.specs.Polarization.{polarized, pole_count_at, p_old, p_prev, p_new, dp_after, pole_number, poles_after}
 use Rattle.fdtd.specs.Yee.{Term, is_advanced, memory_after, updated_h, updated_e}
-use Rattle.fdtd.specs.Halves.{Half, half_h, first_term, second_term, psi_after, first_after, second_after, magnetic_at, magnetic_after, half_e, electricAt, electric_after}
+use Rattle.fdtd.specs.Halves.{Half, half_h, first_term, second_term, psi_after, first_after, second_after, magnetic_at, magnetic_after, half_e, electric_at, electric_after}
 use Rattle.tfsf.specs.Line.{ex_at, hy_at, hy_after, line_h, ex_moved, ex_after, line_e}
 use Rattle.tfsf.specs.declared.faces.Face.{Face}
 use Rattle.tfsf.specs.Corrections.{correct_face}
@@ -179,9 +179,9 @@ magnetic_at_lem : (mu0 : Float) (r : Record) (e media tables psi h : List Float)
 unfolding magnetic_at
 magnetic_at_lem mu0 r e media tables psi h t a i j k = magnetic_held _ _ _ _ (number h t (a * cells r + cell_index r.nx r.ny i j k))
 
-electric_at : (eps0 : Float) (r : Record) (h media tables : List Float) (dp : ℕ → ℕ → Float) (psi e : List Float) (a i j k : ℕ) → Held (electricAt eps0 r h media tables dp psi e a i j k)
-unfolding electricAt
-electric_at eps0 r h media tables dp psi e a i j k = electric_held _ _ _ _ _ _ _
+electric_at_lem : (eps0 : Float) (r : Record) (h media tables : List Float) (dp : ℕ → ℕ → Float) (psi e : List Float) (a i j k : ℕ) → Held (electric_at eps0 r h media tables dp psi e a i j k)
+unfolding electric_at
+electric_at_lem eps0 r h media tables dp psi e a i j k = electric_held _ _ _ _ _ _ _
 
 magnetic_fit : (mu0 : Float) (r : Record) (e media tables psi h : List Float) → All h → All (magnetic_after mu0 r e media tables psi h)
 unfolding magnetic_after
@@ -189,7 +189,7 @@ magnetic_fit mu0 r e media tables psi h t = all_components held 3 r.nx r.ny r.nz
 
 electric_fit : (eps0 : Float) (r : Record) (h media tables : List Float) (dp : ℕ → ℕ → Float) (psi e : List Float) → All (electric_after eps0 r h media tables dp psi e)
 unfolding electric_after
-electric_fit eps0 r h media tables dp psi e = all_components held 3 r.nx r.ny r.nz (electricAt eps0 r h media tables dp psi e) (electric_at eps0 r h media tables dp psi e)
+electric_fit eps0 r h media tables dp psi e = all_components held 3 r.nx r.ny r.nz (electric_at eps0 r h media tables dp psi e) (electric_at_lem eps0 r h media tables dp psi e)
 
 memory_held : (b c m d : Float) → Held m → Held (advanced b c m d).memory
 unfolding advanced

@@ -17,4 +17,5 @@ pub mod Entries
 pub mod Runs
 pub mod Proved
 pub mod Worked
+pub mod Branched
 pub mod Shams

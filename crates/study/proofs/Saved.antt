@@ -17,7 +17,7 @@ use Rattle.format.specs.Rewind.{read_record, read_stores, rewind_fault}
 use Rattle.format.specs.InMemory.{StoresHeld}
 use Rattle.format.specs.Inner.Savable.{Savable}
 use Rattle.format.proofs.Written.{save_long}
-use Rattle.format.proofs.Back.{save_accepted, record-again, stores_again}
+use Rattle.format.proofs.Back.{save_accepted, record_again, stores_again}
 use Rattle.format.proofs.Same.{canon_saves}
 
 -- what means nothing is not judged
@@ -49,7 +49,7 @@ module _ (r : Record) (s : Stores) (n : ℕ) (k : Saved r s n) where
 
   -- a save read gives the study written, and is accepted into stores of its lengths
   pub restored : (read_record (save_bytes r s) ≡ canon r) × (read_stores (save_bytes r s) ≡ s)
-  restored = (record-again r s savable.ok savable.held savable.fit savable.kept, stores_again r s savable.ok savable.held savable.fit savable.kept)
+  restored = (record_again r s savable.ok savable.held savable.fit savable.kept, stores_again r s savable.ok savable.held savable.fit savable.kept)
 
   pub reread : rewind_fault (save_bytes r s) (lengths_of s) ≡ 0
   reread = save_accepted r s savable.ok savable.held savable.fit savable.kept

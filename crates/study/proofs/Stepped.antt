@@ -25,7 +25,7 @@ use Rattle.grid.specs.Fault.{material_at, is_absent}
 use Rattle.grid.specs.Stores.{Stores, cells, number_at, line_length}
 use Rattle.grid.specs.Canon.{region_by, canon_region, canon}
 use Rattle.ade.specs.Polarization.{polarized, pole_at, pole_count_at, p_old, p_prev, p_new, p_after, p_prev_after, dp_after, pole_number, poles_after, delta_p}
-use Rattle.fdtd.specs.Halves.{half_h, psi_after, first_after, second_after, moves_at, curl_at, magnetic_at, magnetic_after, half_e, electricAt, electric_after}
+use Rattle.fdtd.specs.Halves.{half_h, psi_after, first_after, second_after, moves_at, curl_at, magnetic_at, magnetic_after, half_e, electric_at, electric_after}
 use Rattle.tfsf.specs.Line.{line_h, line_e}
 use Rattle.tfsf.specs.Corrections.{correct_face, correct_h, correct_e}
 use Rattle.step.specs.Step.{line_mid, corrected_h, corrected_e, line_end, poles_stepped, stepped, ticked}
@@ -47,7 +47,7 @@ module _ (r : Record) where
 
   pub electric_kept : (eps0 : Float) (h media tables : List Float) (dp : ℕ → ℕ → Float) (psi e : List Float)
       → electric_after eps0 (canon r) h media tables dp psi e ≡ electric_after eps0 r h media tables dp psi e
-  unfolding electric_after electricAt moves_at curl_at canon
+  unfolding electric_after electric_at moves_at curl_at canon
   electric_kept eps0 h media tables dp psi e = refl
 
   pub delta_kept : (poles : List Float) → delta_p (canon r) poles ≡ delta_p r poles

@@ -31,7 +31,7 @@ use Rattle.step.specs.Step.{fresh_ids, step_fault, stepped, ticked, step_call}
 use Rattle.block.specs.Inner.Held.{held, Held}
 use Rattle.block.specs.Block.{block_length, block_fine, block_record, block_of}
 use Rattle.block.proofs.Turns.{block_long}
-use Rattle.block.proofs.Back.{fine_block, record-block}
+use Rattle.block.proofs.Back.{fine_block, record_block}
 use Rattle.format.specs.InMemory.{StoresHeld}
 use Rattle.format.specs.Save.{save_length, save_bytes, save_fault}
 use Rattle.format.specs.Rewind.{is_old, rewind_fault}
@@ -62,7 +62,7 @@ module _ (w : World) (r : Record) (k : Says w r) where
   fine = ap block_fine k.is ∙ fine_block r k.ok k.held
 
   said_there : block_record w.block ≡ r
-  said_there = ap block_record k.is ∙ record-block r k.ok k.held ∙ k.canonical
+  said_there = ap block_record k.is ∙ record_block r k.ok k.held ∙ k.canonical
 
   at : study_of w ≡ some (record { rec = r; kept = w.kept })
   at = study_put w r k.ok k.held k.is ∙ ap {B = Option Study} (λ (q : Record). some (record { rec = q; kept = w.kept })) k.canonical
@@ -375,7 +375,7 @@ run₁₃ = e₁₃ ∷ e₁₂ ∷ e₁₁ ∷ e₁₀ ∷ e₉ ∷ e₈ ∷ e�
 abbrev run₁₅ : List (Made engine)
 run₁₅ = e₁₅ ∷ e₁₄ ∷ run₁₃
 
-abbrev run₁₇ : List (Made engine)
+abbrev pub run₁₇ : List (Made engine)
 run₁₇ = e₁₇ ∷ e₁₆ ∷ run₁₅
 
 pub opened : Honest engine e₁
@@ -497,7 +497,7 @@ stands₁₇ = ap (λ (l : List (Made engine)). e₁₇ ∷ l) (branch_copy _ _ 
 pub two_steps_stand : since engine weight_of (calls engine (standing engine run₁₇)) ≡ 2
 two_steps_stand = ap (λ (l : List (Made engine)). since engine weight_of (calls engine l)) stands₁₇
 
-abbrev run_b₁₇ : List (Made engine)
+abbrev pub run_b₁₇ : List (Made engine)
 run_b₁₇ = e₁₇ ∷ e₆ ∷ e₅ ∷ e₄ ∷ e₂ ∷ e₁ ∷ []
 
 pub is_run_b₁₇ : RunB engine run_b₁₇
@@ -509,9 +509,6 @@ is_run_b₁₇ =
     ) (saves w₁ r₁ k₁ 2000 room_for.1) (refl, refl)
     ) g₆ (refl, refl)
     ) g₁₇ (refl, refl)
-
-pub agreed₁₇ : Agreed engine run₁₇ run_b₁₇
-agreed₁₇ = demand_3.claim run₁₇ is_run₁₇ run_b₁₇ is_run_b₁₇ (ap (calls engine) (sym stands₁₇))
 
 -- ---- demands 1 and 2 on calls of this run: the refused opening left all as it was and named its fault; the save of the branch is read as the study that wrote it,
 -- which writes these bytes again

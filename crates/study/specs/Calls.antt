@@ -1,4 +1,4 @@
--- Demand 2's definition of every C function on a study: each `fooCall` on the stores that it is lent, with its answer and where the rest goes; and
+-- Demand 2's definition of every C function on a study: each `foo_call` on the stores that it is lent, with its answer and where the rest goes; and
 -- the machine of demand 3. Definitions only.
 use Rattle.std.specs.Prelude.{ℕ, zero, suc, ◌≡◌, true, false, List, [], ◌∷◌, length, take, Float}
 use Rattle.std.proofs.Math.Option.{Option, none, some}

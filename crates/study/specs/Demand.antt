@@ -18,7 +18,7 @@ pub record Demand1 : Type 0 where
   pub returns : Returns engine
   -- "after a refusal has written nothing": block and stores are as they were, and in the room for an answer stands the answer of a refusal, 0, +0.0, no axis or no byte
   pub unwritten : (e : Made engine) (n : ℕ) (a : Answer) → Honest engine e → e.reply ≡ refused n a → Unchanged e.handed e.left × (e.back ≡ puts a e.lent)
-  -- "and names the first fault in document 01's order": the number is the definition's (`settled`, from the fault that each `fooCall` judges by)
+  -- "and names the first fault in document 01's order": the number is the definition's (`settled`, from the fault that each `foo_call` judges by)
   pub names : (e : Made engine) (n : ℕ) (a : Answer) → Honest engine e → e.reply ≡ refused n a → does engine e.call (study_of e.handed) ≡ turned n a
 
 pub record Demand2 : Type 0 where

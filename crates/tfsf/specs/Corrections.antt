@@ -114,7 +114,7 @@ abbrev pub face_e : (eps0 : Float) → Record → (media line : List Float) → 
 face_e eps0 r media line f =
     correct_face r f (λ i j k. added_e eps0 r.spacings.dt f (cell_number r media 0 i j k) (cell_number r media 2 i j k) (hy_at (line_length r.nz) line (k + f.offset)))
 
--- hyLower first
+-- hy_lower first
 unfoldable pub correct_h : (mu0 : Float) → Record → (media line h : List Float) → List Float
 correct_h mu0 r media line h =
     let g = r.region in
@@ -122,7 +122,7 @@ correct_h mu0 r media line h =
     let add = face_h mu0 r media line in
     add (hz_upper g s) (add (hz_lower g s) (add (hy_upper g s) (add (hy_lower g s) h)))
 
--- exLower first
+-- ex_lower first
 unfoldable pub correct_e : (eps0 : Float) → Record → (media line e : List Float) → List Float
 correct_e eps0 r media line e =
     let g = r.region in

@@ -10,8 +10,8 @@ use Rattle.grid.specs.Stores.{number_at, cells}
 use Rattle.fdtd.specs.declared.Axis.{Axis}
 use Rattle.fdtd.specs.Axes.{next_of, previous_of, has_next, walled}
 use Rattle.fdtd.specs.Yee.{Term, slope, curl, factor, moves_h, updated_h, ca, cb, moves_e, updated_e}
-use Rattle.fdtd.specs.Halves.{half_h, half_e, moves_at, curl_at, first_term, second_term, magnetic_at, magnetic_after, electricAt, electric_after}
-use Rattle.fdtd.specs.Reading.{magnetic_at_lem, electric_at}
+use Rattle.fdtd.specs.Halves.{half_h, half_e, moves_at, curl_at, first_term, second_term, magnetic_at, magnetic_after, electric_at, electric_after}
+use Rattle.fdtd.specs.Reading.{magnetic_at_lem, electric_at_lem}
 
 -- ---- over variables
 pub off : {A : Type 0} (on : Bool) (x y : A) → on ≡ false → cond on x y ≡ y
@@ -92,8 +92,8 @@ module _ (r : Record) (i j k : ℕ) (x : i < r.nx) (y : j < r.ny) (z : k < r.nz)
         (ca eps0 dt eps_r sigma ⊗ number_at e (cells r) a cell
         ⊕ ((first_term half_e r h tables psi a i j k).deriv ⊖ (second_term half_e r h tables psi a i j k).deriv)
         ⊖ dp a cell ⊘ dt) ⊘ cb eps0 dt eps_r sigma
-    unfolding electricAt updated_e curl_at
+    unfolding electric_at updated_e curl_at
     electric_line =
-        electric_at r i j k x y z eps0 h media tables dp psi e a l
+        electric_at_lem r i j k x y z eps0 h media tables dp psi e a l
         ∙ is_on (moves_at half_e r h tables psi a i j k) _ _ goes
         ∙ ap (λ (u : Float). (ca eps0 dt eps_r sigma ⊗ number_at e (cells r) a cell ⊕ u ⊖ dp a cell ⊘ dt) ⊘ cb eps0 dt eps_r sigma) (no_layer _ _ p q)

@@ -5,7 +5,7 @@ use native.Mathlib.Omega.{arith}
 use lib.ListN.{get_or}
 use Rattle.heads.specs.Numbers.{gh_of}
 use Rattle.judge.proofs.Judged.{steps_small}
-use Rattle.saves.proofs.Taken.{gh_there, ml_there, record-there}
+use Rattle.saves.proofs.Taken.{gh_there, ml_there, record_there}
 use Rattle.saves.proofs.gets.get_record.Goals as goal
 
 pub head_at-g-requires : goal.head_at-g-requires
@@ -29,4 +29,4 @@ returns c =
     let g = c.head_at-g.result in
     c.gh_of.ensures
     ∙ ap (gh_of g) c.get_materials-materials.ensures
-    ∙ record-there b _ g _ c.is_old-old.ensures c.head_at-g.ensures c.entries_from-at.ensures.0
+    ∙ record_there b _ g _ c.is_old-old.ensures c.head_at-g.ensures c.entries_from-at.ensures.0

@@ -73,7 +73,7 @@ module _ (r : Record) (from : ℕ) (near : (p n : ℕ) → ℕ) (near-less : (p 
   abbrev Along : ℕ → Type 0
   Along a = Component (axis r from a) (axis r from (turn a)) (axis r from (turn (turn a))) (place (turn a)) (place (turn (turn a))) (beside r near (turn a)) (beside r near (turn (turn a)))
 
-  -- in rows: the cell stands at the place onR of the row (onS, onT)
+  -- in rows: the cell stands at the place on_r of the row (on_s, on_t)
   module _ (g : Turn) (same : g.count ≡ cells r) (on_r on_s on_t : (i j k : ℕ) → ℕ)
       (lessR : Each (λ i j k. on_r i j k < g.r.n)) (lessS : Each (λ i j k. on_s i j k < g.s.n)) (lessT : Each (λ i j k. on_t i j k < g.t.n))
       (stands : Each (λ i j k. row_at g (on_s i j k) (on_t i j k) + on_r i j k ≡ cell_of i j k))

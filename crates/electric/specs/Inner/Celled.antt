@@ -12,7 +12,7 @@ use Rattle.electric.specs.Inner.Row.{dp_of}
 use Rattle.fdtd.specs.Inner.Turns.{on_r, on_s, on_t}
 use Rattle.electric.specs.Inner.Swept.{made_of, down_r, down_s, down_t}
 
--- as fieldE of Row.antt, with the layers' numbers and whether the cell moves in hand
+-- as field_e of Row.antt, with the layers' numbers and whether the cell moves in hand
 module _ (A B C : Axis) (count : ℕ) (h mem : List Float) (cell downB down_c : ℕ) (moves : Bool) (kb kc : Coef) where
   unfoldable pub field_by : (ca cb dt dp : Float) → (e : List Float) → Float
   field_by a b dt dp e = updated_e moves a b dt dp (curl_by A B C count h mem cell downB cell down_c cell kb kc) (get_or e (A.at + cell) nan)

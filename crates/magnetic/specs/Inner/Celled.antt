@@ -10,7 +10,7 @@ use Rattle.fdtd.specs.Inner.Cell.{curl_by, first_by, second_by}
 use Rattle.fdtd.specs.Inner.Turns.{on_r, on_s, on_t}
 use Rattle.magnetic.specs.Inner.Swept.{made_of, up_r, up_s, up_t}
 
--- as fieldH of Row.antt, with the layers' numbers and whether the cell moves in hand
+-- as field_h of Row.antt, with the layers' numbers and whether the cell moves in hand
 module _ (A B C : Axis) (count : ℕ) (e mem : List Float) (cell upB up_c : ℕ) (moves : Bool) (kb kc : Coef) where
   unfoldable pub field_by : (factor : Float) → (h : List Float) → Float
   field_by f h = updated_h moves f (curl_by A B C count e mem cell cell upB cell up_c kb kc) (get_or h (A.at + cell) nan)

@@ -36,7 +36,7 @@ pub fn step(
     out.refusal
 }
 
-// The step of a study, whose clock is in the record: plain parameters, so that whoever calls this needs no walk.
+// The step of a study, whose clock is in the record.
 pub fn step_record(
     eps0: f64,
     mu0: f64,

@@ -3,7 +3,7 @@
 --   at: where the component along it begins in E or H; mem: where that component's two memories begin in psiE or psiH;
 --   tab: where its own 1/κ, b and c begin in the tables.
 -- Definitions only.
-use Rattle.std.specs.Prelude.{ℕ, zero, suc, ◌+◌, ◌-◌, ◌*◌, Bool, true, false, not, cond, ◌&&◌, ◌||◌, ltb, eqb, get_or}
+use Rattle.std.specs.Prelude.{ℕ, zero, suc, ◌+◌, ◌-◌, ◌*◌, Bool, false, not, cond, ◌&&◌, ◌||◌, ltb, eqb, get_or}
 use Rattle.cells.specs.Cells.{cell_index}
 use Rattle.grid.specs.declared.Record.{Record}
 use Rattle.grid.specs.Stores.{cells}

@@ -1,5 +1,5 @@
 -- A study as it is opened (document 01: "Opening as `new_rect`"). Definitions only.
-use Rattle.std.specs.Prelude.{ℕ, ◌+◌, ◌*◌, false, List, [], ◌∷◌, ◌++◌, replicate, Float}
+use Rattle.std.specs.Prelude.{ℕ, ◌*◌, false, List, [], ◌∷◌, ◌++◌, replicate, Float}
 use Rattle.root.specs.Rounded.{zero_f, one_f}
 use Rattle.root.specs.declared.Spacings.{Spacings}
 use Rattle.dispersion.specs.Material.{vacuum_material}

@@ -1,6 +1,6 @@
 -- That the statement is not empty: a line of four cells, opened, and the same with another eps_r in its last cell. Every premise is met for the first cell, for one step and for two, so
 -- that neither its numbers nor the reading of its plane tell the two apart. Assumes nothing.
-use Prim.Native.Nat.{ℕ, zero, suc, ◌-◌, ◌≤◌, ◌<◌, max}
+use Prim.Native.Nat.{ℕ, zero, suc, ◌≤◌, ◌<◌, max}
 use native.Mathlib.Omega.{arith}
 use mathlib.Core.Path.{◌≡◌, refl}
 use mathlib.Core.Bool.{false}

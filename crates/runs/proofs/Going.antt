@@ -11,10 +11,10 @@ use lib.ListN.{length}
 use Rattle.codec.specs.Bytes.{bytes_fit}
 use Rattle.grid.specs.Stores.{Stores, lengths_of}
 use Rattle.format.specs.InMemory.{StoresHeld}
-use Rattle.study.specs.History.{Made, RunA, begins, makes, holds, opening, doing, saving, rewinding, Reply, refused, accepted, Honest, Got, Handed, Earlier, wrote_by, Wrote}
+use Rattle.study.specs.History.{Made, begins, makes, holds, opening, doing, saving, rewinding, Reply, refused, accepted, Honest, Got, Handed, Earlier, wrote_by, Wrote}
 use Rattle.study.specs.World.{World, Opening, Act, Lent, Answer, Room, Asked, step, nothing, numbers}
 use Rattle.study.specs.Calls.{engine, MadeOn, Silently, reply_of}
-use Rattle.runs.specs.Runs.{Holds, Begins, Next, GoesOn, Saves, Rewinds, StepAndBack, OverAndBack}
+use Rattle.runs.specs.Runs.{Holds, Begins, GoesOn, Saves, Rewinds, StepAndBack, OverAndBack}
 
 -- a run's world, handed on as it was left
 got : (w : World) {o : Option World} → o ≡ some w → Got engine w o

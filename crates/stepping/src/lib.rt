@@ -1,4 +1,6 @@
 // A program's steps, the fields cleared, a reading. Each function leaves a run of demand 3, as those of `program` do.
+#![tactic(auto)]
+
 ghost use Rattle.std.specs.Prelude.{length};
 ghost use Rattle.grid.specs.Stores.{stores};
 ghost use Rattle.study.specs.History.{doing};

@@ -13,12 +13,12 @@ use Rattle.cells.specs.declared.IndexBox.{IndexBox}
 use Rattle.grid.specs.declared.Record.{Record}
 use Rattle.grid.specs.Edited.{with_clock}
 use Rattle.grid.specs.Vacuum.{eps_of, mu_of, light_of}
-use Rattle.grid.specs.Stores.{Stores, stores, Outcome, lengths_of}
-use Rattle.opening.specs.Layer.{Layer, layer}
+use Rattle.grid.specs.Stores.{Stores, Outcome, lengths_of}
+use Rattle.opening.specs.Layer.{Layer}
 use Rattle.materials.specs.Materials.{Placed, placed, put_box_call, halfspace_call, build_call}
 use Rattle.boundary.specs.declared.LossyAbsorber.{LossyAbsorber}
 use Rattle.boundary.specs.Walls.{set_periodic_call, set_plain_call, Lossed, set_lossy_call}
-use Rattle.cpml.specs.Absorber.{Absorbed, set_cpml_call}
+use Rattle.cpml.specs.Absorber.{set_cpml_call}
 use Rattle.tfsf.specs.Wave.{slab_z, injector_z, region_call}
 use Rattle.fields.specs.Fields.{Reset, reset_call, energy_call, plane_call}
 use Rattle.step.specs.Step.{step_call}
@@ -28,7 +28,7 @@ use Rattle.format.specs.Save.{save_length, save_call, length_call}
 use Rattle.calls.specs.Blocks.{sent, on_block, clock_on_block, readout, read_block, answered, answering, add_bytes_call, asked, Told, told, telling, axis_bits, Named, named, naming, open_on_block, rewind_on_block}
 use Rattle.study.specs.History.{opening, doing, saving, rewinding, Honest}
 use Rattle.study.specs.World.{World, Floats, Lent, lent_in, Opening, SaidOpening, Act, SaidPut, SaidAct, put_box, assign_halfspace, add_material, build_dispersion, set_periodic, walls_periodic, walls_conductor, walls_lossy, walls_cpml, slab, injector, box_region, step, run, reset_fields, total_energy, plane_reading, ask_length, Answer, nothing, numbers, floats, Room, front, puts}
-use Rattle.study.specs.Calls.{put_placed, put_poles, put_layer, put_lossed, put_aux, put_reset, layer_of, lossed_of, placed_of, reset_of, box_region_of, Form, form, engine, reply_of, MadeOn, Silently, Numbering, Reading}
+use Rattle.study.specs.Calls.{put_placed, put_poles, put_layer, put_lossed, put_aux, put_reset, layer_of, lossed_of, placed_of, reset_of, box_region_of, form, engine, reply_of, MadeOn, Silently, Numbering, Reading}
 use Rattle.study.proofs.Regular.{regular, reads, moves}
 use Rattle.study.proofs.Made.{on_block_lem, clock_block, read_block_lem}
 use Rattle.study.proofs.Made as made

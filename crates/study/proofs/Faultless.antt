@@ -14,7 +14,7 @@ use Rattle.grid.specs.declared.Region.{Region}
 use Rattle.grid.specs.declared.Clock.{Clock}
 use Rattle.grid.specs.declared.Record.{Record}
 use Rattle.grid.specs.Edited.{with_walls, with_built, with_region}
-use Rattle.grid.specs.Fault.{beyond, material_at, pole_count, first, size_fits, spacings_fit, opened_fit, counts_fit, material_fits, poles_fit, layer_fits, is_absent, corners_fit, region_fits, study_fits, fault_of}
+use Rattle.grid.specs.Fault.{beyond, material_at, pole_count, size_fits, spacings_fit, opened_fit, counts_fit, material_fits, poles_fit, layer_fits, is_absent, corners_fit, region_fits, study_fits, fault_of}
 use Rattle.grid.specs.Canon.{canon_material}
 use Rattle.grid.specs.Stores.{Stores, fault_lent}
 use Rattle.grid.proofs.Tests.{and_left, and_right, first_none, or_none}

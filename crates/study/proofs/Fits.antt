@@ -3,7 +3,7 @@ use Prim.Native.Nat.{ℕ, zero, suc, ◌+◌, ◌-◌, ◌*◌, ◌/◌, ◌%◌
 use mathlib.Core.Bool.{Bool, true, false, cond, ◌&&◌}
 use mathlib.Core.List.{List, [], ◌∷◌, ◌++◌}
 use lib.Dec.{T, ltb, eqb}
-use lib.ListN.{length, get_or, take, drop, set, replicate}
+use lib.ListN.{length, get_or, take, drop, replicate}
 use lib.Ieee.{Float, binary64, nan, eq, lt}
 use lib.Ieee.Fits.{and_i, and_l, and_r, cond-fits, nan-fits, add-fits, sub-fits, mul-fits, div-fits}
 use lib.Ieee.Bits.{of_bits-fits}
@@ -19,7 +19,7 @@ use Rattle.cpml.specs.Memory.{advanced}
 use Rattle.cpml.specs.Absorber.{axis_tables, layer_tables}
 use Rattle.grid.specs.declared.Record.{Record}
 use Rattle.grid.specs.Fault.{is_absent}
-use Rattle.grid.specs.Stores.{Stores, stores, zeros, cells, line_length}
+use Rattle.grid.specs.Stores.{Stores, zeros, cells, line_length}
 use Rattle.opening.specs.Opening.{inactive, open_tables, open_media}
 use Rattle.materials.specs.Materials.{medium_at, media_set, ids_set}
 use Rattle.boundary.specs.declared.LossyAbsorber.{LossyAbsorber}

@@ -8,7 +8,7 @@ use mathlib.Core.List.{List, []}
 use lib.Dec.{T}
 use lib.Ieee.{Float}
 use lib.ListN.{length}
-use Rattle.study.specs.History.{turned, given, answer_in, does, Gives}
+use Rattle.study.specs.History.{given, answer_in, does, Gives}
 use Rattle.study.specs.Inner.Laws.{Laws, Ticking}
 use Rattle.study.proofs.Standing.{no_outcome, claim, run_b, timed, resumes}
 use Rattle.codec.specs.Bytes.{bytes_fit}

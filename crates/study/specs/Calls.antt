@@ -2,7 +2,7 @@
 -- the machine of demand 3. Definitions only.
 use Rattle.std.specs.Prelude.{ℕ, zero, suc, ◌≡◌, true, false, List, [], ◌∷◌, length, take, Float}
 use Rattle.std.proofs.Math.Option.{Option, none, some}
-use Rattle.study.specs.History.{Fate, turned, given, Reply, refused, accepted, opening, doing, saving, rewinding, Machine, Made, Honest}
+use Rattle.study.specs.History.{Fate, turned, given, Reply, refused, accepted, opening, doing, saving, rewinding, Machine, Honest}
 use Rattle.root.specs.Rounded.{zero_f}
 use Rattle.grid.specs.declared.RegionKind.TheVariants.{BoxRegion}
 use Rattle.grid.specs.declared.Region.{Region}

@@ -1,7 +1,6 @@
 use mathlib.Core.Path.{refl, ◌∙◌, sym, ap}
 use Prim.Native.Nat.{◌+◌, zero-le}
 use native.Mathlib.Nat.{le_refl}
-use native.Mathlib.Omega.{arith}
 use Rattle.root.specs.Rounded.{zero_f}
 use Rattle.fdtd.specs.declared.rows.Side.{Side}
 use Rattle.fdtd.specs.Axes.{walled}
@@ -9,7 +8,6 @@ use Rattle.electric.proofs.Slopes.{across_slope, within_in}
 use Rattle.fdtd.proofs.Stands.{stands_across, calm_across, room_across, lower, mem_apart, thrice, row_fits, row_le}
 use Rattle.electric.proofs.Edges.{fill_front}
 use Rattle.electric.proofs.Component.{idle, moved, free, barred, change_fits}
-use Rattle.std.proofs.Common.{rules}
 use Rattle.electric.proofs.comp_r.Goals as goal
 
 pub fill-requires : goal.fill-requires
@@ -25,14 +23,20 @@ row-requires c =
     let g = a.g in
     let p = a.p in
     let f = pre.fit in
-    let spot = pre.n_bound in record { a_bound = (zero-le, f.some, le_refl g.r.n, f.small); n_in_bounds = (row_fits g.r.at p.q g.r.n g.count _ f.hr spot.0, change_fits a.w g.r.at p.q g.r.n g.count _ change-at.ensures pre.s_lt_n.3 spot.0, pre.s_lt_n.2); side_room = (
-            room_across g.s _ _ _ _ _ _ _ across.ensures (row_fits g.t.at p.q g.r.n g.count _ f.et spot.0)
-                (row_fits g.t.at p.bs g.r.n g.count _ f.et spot.1)
-                (thrice g.r.tab g.r.n _ _ f.tr (le_refl g.r.n)) (row_fits g.r.mem p.q g.r.n g.count _ (lower g.r.mem g.count _ f.mr) spot.0),
-            room_across g.t _ _ _ _ _ _ _ across2.ensures (row_fits g.s.at p.q g.r.n g.count _ f.es spot.0)
-                (row_fits g.s.at p.bt g.r.n g.count _ f.es spot.2)
-                (thrice g.r.tab g.r.n _ _ f.tr (le_refl g.r.n)) (row_fits (g.r.mem + g.count) p.q g.r.n g.count _ f.mr spot.0),
-          ); calm = (calm_across g.s _ _ _ _ _ _ _ across.ensures zero-le, calm_across g.t _ _ _ _ _ _ _ across2.ensures zero-le); n_bound = mem_apart g.r.mem p.q g.r.n g.count _ _ (ap (λ (s : Side). s.mem) across.ensures) (ap (λ (s : Side). s.mem) across2.ensures) spot.0 }
+    let spot = pre.n_bound in record {
+      a_bound = (zero-le, f.some, le_refl g.r.n, f.small);
+      n_in_bounds = (row_fits g.r.at p.q g.r.n g.count _ f.hr spot.0, change_fits a.w g.r.at p.q g.r.n g.count _ change-at.ensures pre.s_lt_n.3 spot.0, pre.s_lt_n.2);
+      side_room = (
+        room_across g.s _ _ _ _ _ _ _ across.ensures (row_fits g.t.at p.q g.r.n g.count _ f.et spot.0)
+            (row_fits g.t.at p.bs g.r.n g.count _ f.et spot.1)
+            (thrice g.r.tab g.r.n _ _ f.tr (le_refl g.r.n)) (row_fits g.r.mem p.q g.r.n g.count _ (lower g.r.mem g.count _ f.mr) spot.0),
+        room_across g.t _ _ _ _ _ _ _ across2.ensures (row_fits g.s.at p.q g.r.n g.count _ f.es spot.0)
+            (row_fits g.s.at p.bt g.r.n g.count _ f.es spot.2)
+            (thrice g.r.tab g.r.n _ _ f.tr (le_refl g.r.n)) (row_fits (g.r.mem + g.count) p.q g.r.n g.count _ f.mr spot.0),
+      );
+      calm = (calm_across g.s _ _ _ _ _ _ _ across.ensures zero-le, calm_across g.t _ _ _ _ _ _ _ across2.ensures zero-le);
+      n_bound = mem_apart g.r.mem p.q g.r.n g.count _ _ (ap (λ (s : Side). s.mem) across.ensures) (ap (λ (s : Side). s.mem) across2.ensures) spot.0;
+    }
 
 pub returns-then-walled_at : goal.returns-then-walled_at
 returns-then-walled_at c =

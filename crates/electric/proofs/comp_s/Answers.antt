@@ -1,7 +1,6 @@
 use mathlib.Core.Path.{refl, ◌∙◌, sym, ap}
 use Prim.Native.Nat.{◌+◌}
 use native.Mathlib.Nat.{le_refl, le_trans}
-use native.Mathlib.Omega.{arith}
 use Rattle.root.specs.Rounded.{zero_f}
 use Rattle.fdtd.specs.declared.rows.Side.{Side}
 use Rattle.fdtd.specs.Axes.{previous_of, walled}
@@ -9,7 +8,6 @@ use Rattle.electric.proofs.Slopes.{across_slope, along_slope, walls, start_le, e
 use Rattle.fdtd.proofs.Stands.{stands_across, stands_along, calm_across, calm_along, room_across, room_along, lower, mem_apart, thrice, row_fits, row_le}
 use Rattle.electric.proofs.Edges.{fill_front}
 use Rattle.electric.proofs.Component.{idle, moved, barred_left, left_free, change_fits}
-use Rattle.std.proofs.Common.{rules}
 use Rattle.electric.proofs.comp_s.Goals as goal
 
 pub fill-requires : goal.fill-requires
@@ -28,13 +26,19 @@ row-requires c =
     let spot = pre.n_bound in
     let ready = pre.off_wall_run in
     let start = start_le g.r.wraps a.run.start ready.starts in
-    let end = end_fits g.r.wraps g.r.n a.run.end ready.ends f.some in record { a_bound = (start, end.0, end.1, f.small); n_in_bounds = (row_fits g.s.at p.q g.r.n g.count _ f.hs spot.0, change_fits a.w g.s.at p.q g.r.n g.count _ change-at.ensures pre.s_lt_n.3 spot.0, pre.s_lt_n.2); side_room = (
-            room_across g.t _ _ _ _ _ _ _ across.ensures (row_fits g.r.at p.q g.r.n g.count _ f.er spot.0)
-                (row_fits g.r.at p.bt g.r.n g.count _ f.er spot.2)
-                (thrice g.r.tab g.r.n _ _ f.tr (le_refl g.r.n)) (row_fits g.s.mem p.q g.r.n g.count _ (lower g.s.mem g.count _ f.ms) spot.0),
-            room_along g.r _ a.run _ _ along.ensures (row_fits g.t.at p.q g.r.n g.count _ f.et spot.0) f.tr
-                (row_fits (g.s.mem + g.count) p.q g.r.n g.count _ f.ms spot.0),
-          ); calm = (calm_across g.t _ _ _ _ _ _ _ across.ensures (le_trans start end.0), calm_along g.r _ a.run _ _ along.ensures ready.lull); n_bound = mem_apart g.s.mem p.q g.r.n g.count _ _ (ap (λ (s : Side). s.mem) across.ensures) (ap (λ (s : Side). s.mem) along.ensures) spot.0 }
+    let end = end_fits g.r.wraps g.r.n a.run.end ready.ends f.some in record {
+      a_bound = (start, end.0, end.1, f.small);
+      n_in_bounds = (row_fits g.s.at p.q g.r.n g.count _ f.hs spot.0, change_fits a.w g.s.at p.q g.r.n g.count _ change-at.ensures pre.s_lt_n.3 spot.0, pre.s_lt_n.2);
+      side_room = (
+        room_across g.t _ _ _ _ _ _ _ across.ensures (row_fits g.r.at p.q g.r.n g.count _ f.er spot.0)
+            (row_fits g.r.at p.bt g.r.n g.count _ f.er spot.2)
+            (thrice g.r.tab g.r.n _ _ f.tr (le_refl g.r.n)) (row_fits g.s.mem p.q g.r.n g.count _ (lower g.s.mem g.count _ f.ms) spot.0),
+        room_along g.r _ a.run _ _ along.ensures (row_fits g.t.at p.q g.r.n g.count _ f.et spot.0) f.tr
+            (row_fits (g.s.mem + g.count) p.q g.r.n g.count _ f.ms spot.0),
+      );
+      calm = (calm_across g.t _ _ _ _ _ _ _ across.ensures (le_trans start end.0), calm_along g.r _ a.run _ _ along.ensures ready.lull);
+      n_bound = mem_apart g.s.mem p.q g.r.n g.count _ _ (ap (λ (s : Side). s.mem) across.ensures) (ap (λ (s : Side). s.mem) along.ensures) spot.0;
+    }
 
 pub returns-then-walled_at : goal.returns-then-walled_at
 returns-then-walled_at c =

@@ -2,7 +2,6 @@ use native.Mathlib.Omega.{arith}
 use mathlib.Core.Path.{◌∙◌}
 use Rattle.fdtd.proofs.Lines.{fit_as}
 use Rattle.electric.proofs.Rowwise.{line_spot, spot_as}
-use Rattle.std.proofs.Common.{rules}
 use Rattle.electric.proofs.line.Goals as goal
 
 pub find_spot-p-requires : goal.find_spot-p-requires

@@ -1,7 +1,6 @@
 use native.Mathlib.Nat.{le_trans}
 use Rattle.electric.proofs.Slopes.{ready_of, start_le}
 use mathlib.Core.Path.{refl}
-use Rattle.std.proofs.Common.{rules}
 use Rattle.electric.proofs.step_along.Goals as goal
 
 pub sweep_cells-requires : goal.sweep_cells-requires

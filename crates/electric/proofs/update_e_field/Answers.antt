@@ -3,7 +3,6 @@ use Prim.Native.Nat.{◌*◌}
 use native.Mathlib.Omega.{arith}
 use Rattle.electric.proofs.Polarized.{dp_room, held_for}
 use Rattle.electric.proofs.Steps.{electric_is, psi_is}
-use Rattle.std.proofs.Common.{rules}
 use Rattle.electric.proofs.update_e_field.Goals as goal
 
 pub overflow_mul-w-4 : goal.overflow_mul-w-4

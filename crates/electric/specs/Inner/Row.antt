@@ -1,5 +1,5 @@
 -- What one row of the electric field takes its new numbers from: by its sides, as the passes know it, and by the cells' places. Definitions only.
-use Rattle.std.specs.Prelude.{ℕ, ◌+◌, ◌-◌, ◌≤◌, ◌≡◌, Bool, true, false, cond, List, eqb, ltb, length, get_or, Float}
+use Rattle.std.specs.Prelude.{ℕ, ◌+◌, ◌-◌, ◌≤◌, ◌≡◌, Bool, true, false, cond, List, eqb, length, get_or, Float}
 use Rattle.std.specs.Float.{nan}
 use Rattle.root.specs.Rounded.{◌⊖◌, zero_f}
 use Rattle.cells.specs.Box.{within}

@@ -1,6 +1,5 @@
 use borrow.Author.Tests.{ne_eqb}
 use Rattle.halves.proofs.Parts.{moves, rests}
-use Rattle.std.proofs.Common.{rules}
 use Rattle.halves.proofs.polarize.Goals as goal
 
 pub advance-requires : goal.advance-requires

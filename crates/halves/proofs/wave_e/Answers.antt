@@ -1,6 +1,5 @@
 use Rattle.grid.proofs.Tests.{unless, met}
 use Rattle.halves.proofs.Parts.{waves_e, still_e}
-use Rattle.std.proofs.Common.{rules}
 use Rattle.halves.proofs.wave_e.Goals as goal
 
 pub correct_e-requires : goal.correct_e-requires

@@ -7,7 +7,6 @@ use Rattle.fdtd.specs.Axes.{has_next}
 use Rattle.magnetic.proofs.Slopes.{across_slope}
 use Rattle.fdtd.proofs.Stands.{stands_across, calm_across, room_across, lower, mem_apart, thrice, row_fits, row_le}
 use Rattle.magnetic.proofs.Component.{idle, moved, and_true, and_left, and_right}
-use Rattle.std.proofs.Common.{rules}
 use Rattle.magnetic.proofs.comp_r.Goals as goal
 
 pub overflow_add-g : goal.overflow_add-g
@@ -49,14 +48,20 @@ row-requires c =
     let g = a.g in
     let p = a.p in
     let f = pre.fit in
-    let spot = pre.n_bound in record { le_n = (f.some, f.small, le_refl g.r.n); n_in_bounds = (row_fits g.r.at p.q g.r.n g.count _ f.hr spot.0, pre.s_lt_n.2); side_room = (
-            room_across g.s _ _ _ _ _ _ _ across.ensures (row_fits g.t.at p.q g.r.n g.count _ f.et spot.0)
-                (row_fits g.t.at p.bs g.r.n g.count _ f.et spot.1)
-                (thrice g.r.tab g.r.n _ _ f.tr (le_refl g.r.n)) (row_fits g.r.mem p.q g.r.n g.count _ (lower g.r.mem g.count _ f.mr) spot.0),
-            room_across g.t _ _ _ _ _ _ _ across2.ensures (row_fits g.s.at p.q g.r.n g.count _ f.es spot.0)
-                (row_fits g.s.at p.bt g.r.n g.count _ f.es spot.2)
-                (thrice g.r.tab g.r.n _ _ f.tr (le_refl g.r.n)) (row_fits (g.r.mem + g.count) p.q g.r.n g.count _ f.mr spot.0),
-          ); calm = (calm_across g.s _ _ _ _ _ _ _ across.ensures zero-le, calm_across g.t _ _ _ _ _ _ _ across2.ensures zero-le); n_bound = mem_apart g.r.mem p.q g.r.n g.count _ _ (ap (λ (s : Side). s.mem) across.ensures) (ap (λ (s : Side). s.mem) across2.ensures) spot.0 }
+    let spot = pre.n_bound in record {
+      le_n = (f.some, f.small, le_refl g.r.n);
+      n_in_bounds = (row_fits g.r.at p.q g.r.n g.count _ f.hr spot.0, pre.s_lt_n.2);
+      side_room = (
+        room_across g.s _ _ _ _ _ _ _ across.ensures (row_fits g.t.at p.q g.r.n g.count _ f.et spot.0)
+            (row_fits g.t.at p.bs g.r.n g.count _ f.et spot.1)
+            (thrice g.r.tab g.r.n _ _ f.tr (le_refl g.r.n)) (row_fits g.r.mem p.q g.r.n g.count _ (lower g.r.mem g.count _ f.mr) spot.0),
+        room_across g.t _ _ _ _ _ _ _ across2.ensures (row_fits g.s.at p.q g.r.n g.count _ f.es spot.0)
+            (row_fits g.s.at p.bt g.r.n g.count _ f.es spot.2)
+            (thrice g.r.tab g.r.n _ _ f.tr (le_refl g.r.n)) (row_fits (g.r.mem + g.count) p.q g.r.n g.count _ f.mr spot.0),
+      );
+      calm = (calm_across g.s _ _ _ _ _ _ _ across.ensures zero-le, calm_across g.t _ _ _ _ _ _ _ across2.ensures zero-le);
+      n_bound = mem_apart g.r.mem p.q g.r.n g.count _ _ (ap (λ (s : Side). s.mem) across.ensures) (ap (λ (s : Side). s.mem) across2.ensures) spot.0;
+    }
 
 pub returns-then-has_next-2 : goal.returns-then-has_next-2
 returns-then-has_next-2 c =

@@ -7,7 +7,6 @@ use Rattle.fdtd.specs.Axes.{next_of, has_next}
 use Rattle.magnetic.proofs.Slopes.{reach_in, reach_out, reach_le, across_slope, along_slope}
 use Rattle.fdtd.proofs.Stands.{stands_across, stands_along, calm_across, calm_along, room_across, room_along, lower, mem_apart, thrice, row_fits, row_le}
 use Rattle.magnetic.proofs.Component.{idle, moved, and_true, and_left, and_right}
-use Rattle.std.proofs.Common.{rules}
 use Rattle.magnetic.proofs.comp_t.Goals as goal
 
 pub overflow_add-g : goal.overflow_add-g
@@ -43,13 +42,19 @@ row-requires c =
     let g = a.g in
     let p = a.p in
     let f = pre.fit in
-    let spot = pre.n_bound in record { le_n = (f.some, f.small, reach_le g.r.wraps g.r.n a.run.end pre.next_run.ends); n_in_bounds = (row_fits g.t.at p.q g.r.n g.count _ f.ht spot.0, pre.s_lt_n.2); side_room = (
-            room_along g.r _ a.run _ _ along.ensures (row_fits g.s.at p.q g.r.n g.count _ f.es spot.0) f.tr
-                (row_fits g.t.mem p.q g.r.n g.count _ (lower g.t.mem g.count _ f.mt) spot.0),
-            room_across g.s _ _ _ _ _ _ _ across.ensures (row_fits g.r.at p.q g.r.n g.count _ f.er spot.0)
-                (row_fits g.r.at p.bs g.r.n g.count _ f.er spot.1)
-                (thrice g.r.tab g.r.n _ _ f.tr (le_refl g.r.n)) (row_fits (g.t.mem + g.count) p.q g.r.n g.count _ f.mt spot.0),
-          ); calm = (calm_along g.r _ a.run _ _ along.ensures pre.next_run.lull, calm_across g.s _ _ _ _ _ _ _ across.ensures zero-le); n_bound = mem_apart g.t.mem p.q g.r.n g.count _ _ (ap (λ (s : Side). s.mem) along.ensures) (ap (λ (s : Side). s.mem) across.ensures) spot.0 }
+    let spot = pre.n_bound in record {
+      le_n = (f.some, f.small, reach_le g.r.wraps g.r.n a.run.end pre.next_run.ends);
+      n_in_bounds = (row_fits g.t.at p.q g.r.n g.count _ f.ht spot.0, pre.s_lt_n.2);
+      side_room = (
+        room_along g.r _ a.run _ _ along.ensures (row_fits g.s.at p.q g.r.n g.count _ f.es spot.0) f.tr
+            (row_fits g.t.mem p.q g.r.n g.count _ (lower g.t.mem g.count _ f.mt) spot.0),
+        room_across g.s _ _ _ _ _ _ _ across.ensures (row_fits g.r.at p.q g.r.n g.count _ f.er spot.0)
+            (row_fits g.r.at p.bs g.r.n g.count _ f.er spot.1)
+            (thrice g.r.tab g.r.n _ _ f.tr (le_refl g.r.n)) (row_fits (g.t.mem + g.count) p.q g.r.n g.count _ f.mt spot.0),
+      );
+      calm = (calm_along g.r _ a.run _ _ along.ensures pre.next_run.lull, calm_across g.s _ _ _ _ _ _ _ across.ensures zero-le);
+      n_bound = mem_apart g.t.mem p.q g.r.n g.count _ _ (ap (λ (s : Side). s.mem) along.ensures) (ap (λ (s : Side). s.mem) across.ensures) spot.0;
+    }
 
 pub returns-then-has_next : goal.returns-then-has_next
 returns-then-has_next c =

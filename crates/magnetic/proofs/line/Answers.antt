@@ -2,7 +2,6 @@ use native.Mathlib.Omega.{arith}
 use mathlib.Core.Path.{◌∙◌}
 use Rattle.fdtd.proofs.Lines.{fit_as}
 use Rattle.magnetic.proofs.Rowwise.{line_spot, spot_next}
-use Rattle.std.proofs.Common.{rules}
 use Rattle.magnetic.proofs.line.Goals as goal
 
 pub overflow_add-g : goal.overflow_add-g

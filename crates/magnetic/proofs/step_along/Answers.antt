@@ -1,7 +1,6 @@
 use mathlib.Core.Path.{refl}
 use Prim.Native.Nat.{zero-le}
 use Rattle.magnetic.proofs.Slopes.{ready_of}
-use Rattle.std.proofs.Common.{rules}
 use Rattle.magnetic.proofs.step_along.Goals as goal
 
 pub sweep_cells-requires : goal.sweep_cells-requires

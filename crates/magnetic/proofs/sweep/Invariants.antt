@@ -1,12 +1,9 @@
 use Rattle.magnetic.specs.Inner.Swept.{Swept}
 use lib.Ieee.{Float}
 use mathlib.Core.List.{List}
-use Rattle.fdtd.proofs.Places.{row_more}
 use lib.ListN.{length}
-use native.Mathlib.Omega.{arith}
 use Prim.Native.Nat.{◌*◌, ◌+◌, ◌-◌, ◌≤◌}
-use Rattle.fdtd.proofs.Lines.{done_as, done_start, fit_as}
-use mathlib.Core.Path.{◌∙◌, ◌≡◌, refl}
+use mathlib.Core.Path.{◌≡◌}
 use Rattle.magnetic.proofs.sweep.Given as goal
 
 abbrev pub invariant-loop-s : goal.invariant-loop-s

@@ -1,7 +1,6 @@
 use Rattle.fdtd.proofs.Fits.{count_for, fit_for, laid_for}
 use native.Mathlib.Omega.{arith}
 use Rattle.magnetic.proofs.Steps.{magnetic_is, psi_is}
-use Rattle.std.proofs.Common.{rules}
 use Rattle.magnetic.proofs.update_h_field.Goals as goal
 
 pub turn_of-g-requires : goal.turn_of-g-requires

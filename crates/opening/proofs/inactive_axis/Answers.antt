@@ -1,5 +1,4 @@
 use Rattle.opening.proofs.Opened.{inactive_is}
-use Rattle.std.proofs.Common.{rules}
 use Rattle.opening.proofs.inactive_axis.Goals as goal
 
 pub returns : goal.returns

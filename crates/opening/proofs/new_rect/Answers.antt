@@ -1,7 +1,6 @@
 use mathlib.Core.Path.{sym, ap, ◌∙◌}
 use Rattle.opening.specs.Opening.{open_stores, open_call}
 use Rattle.grid.proofs.Settled.{turned_down, taken_up, with_none, fault_at}
-use Rattle.std.proofs.Common.{rules}
 use Rattle.opening.proofs.new_rect.Goals as goal
 
 pub returns-then-f-ne0 : goal.returns-then-f-ne0

@@ -1,5 +1,4 @@
 use Rattle.opening.proofs.Opened.{media_is}
-use Rattle.std.proofs.Common.{rules}
 use Rattle.opening.proofs.open_media.Goals as goal
 
 pub returns : goal.returns

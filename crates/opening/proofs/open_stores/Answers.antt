@@ -1,7 +1,6 @@
 use mathlib.Core.Path.{ap}
 use Rattle.grid.specs.Stores.{stores, store_lengths}
 use Rattle.opening.proofs.Opened.{opened_are}
-use Rattle.std.proofs.Common.{rules}
 use Rattle.opening.proofs.open_stores.Goals as goal
 
 pub open_media-requires : goal.open_media-requires

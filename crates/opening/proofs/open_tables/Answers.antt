@@ -1,5 +1,4 @@
 use Rattle.opening.proofs.Opened.{tables_are}
-use Rattle.std.proofs.Common.{rules}
 use Rattle.opening.proofs.open_tables.Goals as goal
 
 pub returns : goal.returns

@@ -1,14 +1,10 @@
-use mathlib.Core.Path.{◌≡◌, refl, ap, ◌∙◌}
+use mathlib.Core.Path.{◌≡◌}
 use Prim.Native.Nat.{◌≤◌, ◌+◌, ◌-◌}
-use native.Mathlib.Omega.{arith}
 use lib.ListN.{length, drop}
-use Rattle.grid.specs.declared.Clock.{Clock}
-use Rattle.grid.specs.Edited.{with_clock}
 use Rattle.grid.specs.Stores.{stores}
 use Rattle.step.specs.Step.{last_step}
 use Rattle.step.specs.Inner.Ready.{StepReady}
 use Rattle.run.specs.Run.{ran}
-use Rattle.run.proofs.Runs.{goes, ends, by_clock, still_ready, less_left}
 use Rattle.run.proofs.advance_all.Given as goal
 
 abbrev pub invariant-loop-i : goal.invariant-loop-i

@@ -3,7 +3,6 @@ use Rattle.grid.specs.Stores.{Stores, Outcome}
 use Rattle.grid.proofs.Settled.{turned_down, taken_up}
 use Rattle.step.proofs.Judged.{ready}
 use Rattle.run.specs.Run.{run_call}
-use Rattle.std.proofs.Common.{rules}
 use Rattle.run.proofs.run.Goals as goal
 
 pub returns-then-f-ne0 : goal.returns-then-f-ne0

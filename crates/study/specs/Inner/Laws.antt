@@ -1,7 +1,7 @@
 -- What a machine has to show of its definition for the claim of History.antt to hold of it: the proof of demand 3 asks for these, and the claim does not speak of
 -- them. Definitions only.
 use Rattle.std.specs.Prelude.{ℕ, ◌+◌, ◌≡◌, List}
-use Rattle.std.proofs.Math.Option.{Option, none, some}
+use Rattle.std.proofs.Math.Option.{none, some}
 use Rattle.study.specs.History.{given, Machine, Made, RunA, holds, calls, standing, since}
 
 module _ (M : Machine) where

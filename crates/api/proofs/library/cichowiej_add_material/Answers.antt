@@ -1,6 +1,5 @@
 use Rattle.study.proofs.Holding.{all_bytes}
 use Rattle.study.proofs.Entries.{cichowiej_add_material}
-use Rattle.std.proofs.Common.{rules}
 use Rattle.api.proofs.library.cichowiej_add_material.Goals as goal
 
 pub returns : goal.returns

@@ -1,5 +1,4 @@
 use Rattle.study.proofs.Entries.{cichowiej_assign_material_halfspace_z}
-use Rattle.std.proofs.Common.{rules}
 use Rattle.api.proofs.library.cichowiej_assign_material_halfspace_z.Goals as goal
 
 pub returns : goal.returns

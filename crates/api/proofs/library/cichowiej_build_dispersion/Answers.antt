@@ -1,5 +1,4 @@
 use Rattle.study.proofs.Entries.{cichowiej_build_dispersion}
-use Rattle.std.proofs.Common.{rules}
 use Rattle.api.proofs.library.cichowiej_build_dispersion.Goals as goal
 
 pub returns : goal.returns

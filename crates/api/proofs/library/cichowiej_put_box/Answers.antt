@@ -1,6 +1,5 @@
 use Rattle.study.proofs.Holding.{held_more, held_none}
 use Rattle.study.proofs.Entries.{cichowiej_put_box}
-use Rattle.std.proofs.Common.{rules}
 use Rattle.api.proofs.library.cichowiej_put_box.Goals as goal
 
 pub returns : goal.returns

@@ -1,5 +1,4 @@
 use Rattle.study.proofs.Holding.{all_held, all_numbers, all_bytes}
-use Rattle.std.proofs.Common.{rules}
 use Rattle.api.proofs.memory.hold.Goals as goal
 
 pub returns : goal.returns

@@ -1,5 +1,4 @@
 use Rattle.study.proofs.Entries.{cichowiej_plane_reading}
-use Rattle.std.proofs.Common.{rules}
 use Rattle.api.proofs.readings.cichowiej_plane_reading.Goals as goal
 
 pub returns : goal.returns

@@ -1,5 +1,4 @@
 use Rattle.study.proofs.Entries.{cichowiej_total_energy}
-use Rattle.std.proofs.Common.{rules}
 use Rattle.api.proofs.readings.cichowiej_total_energy.Goals as goal
 
 pub returns : goal.returns

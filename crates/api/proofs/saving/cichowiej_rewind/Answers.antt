@@ -1,6 +1,5 @@
 use Rattle.study.proofs.Holding.{all_bytes}
 use Rattle.study.proofs.Entries.{cichowiej_rewind}
-use Rattle.std.proofs.Common.{rules}
 use Rattle.api.proofs.saving.cichowiej_rewind.Goals as goal
 
 pub returns : goal.returns

@@ -1,5 +1,4 @@
 use Rattle.study.proofs.Entries.{cichowiej_save}
-use Rattle.std.proofs.Common.{rules}
 use Rattle.api.proofs.saving.cichowiej_save.Goals as goal
 
 pub returns : goal.returns

@@ -1,5 +1,4 @@
 use Rattle.study.proofs.Entries.{cichowiej_save_length}
-use Rattle.std.proofs.Common.{rules}
 use Rattle.api.proofs.saving.cichowiej_save_length.Goals as goal
 
 pub returns : goal.returns

@@ -1,6 +1,5 @@
 use Rattle.study.proofs.Holding.{all_held}
 use Rattle.study.proofs.Entries.{cichowiej_run}
-use Rattle.std.proofs.Common.{rules}
 use Rattle.api.proofs.steps.cichowiej_run.Goals as goal
 
 pub returns : goal.returns

@@ -1,6 +1,5 @@
 use Rattle.study.proofs.Holding.{held_more, held_none}
 use Rattle.study.proofs.Entries.{cichowiej_open}
-use Rattle.std.proofs.Common.{rules}
 use Rattle.api.proofs.studies.cichowiej_open.Goals as goal
 
 pub returns : goal.returns

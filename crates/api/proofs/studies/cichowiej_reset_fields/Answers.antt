@@ -1,5 +1,4 @@
 use Rattle.study.proofs.Entries.{cichowiej_reset_fields}
-use Rattle.std.proofs.Common.{rules}
 use Rattle.api.proofs.studies.cichowiej_reset_fields.Goals as goal
 
 pub returns : goal.returns

@@ -1,6 +1,5 @@
 use Rattle.study.proofs.Holding.{all_held}
 use Rattle.study.proofs.Entries.{cichowiej_set_boundary_cpml}
-use Rattle.std.proofs.Common.{rules}
 use Rattle.api.proofs.walls.cichowiej_set_boundary_cpml.Goals as goal
 
 pub returns : goal.returns

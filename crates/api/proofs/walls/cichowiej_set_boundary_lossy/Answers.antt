@@ -1,6 +1,5 @@
 use Rattle.study.proofs.Holding.{held_more, held_none}
 use Rattle.study.proofs.Entries.{cichowiej_set_boundary_lossy}
-use Rattle.std.proofs.Common.{rules}
 use Rattle.api.proofs.walls.cichowiej_set_boundary_lossy.Goals as goal
 
 pub returns : goal.returns

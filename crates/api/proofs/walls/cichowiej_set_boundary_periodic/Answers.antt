@@ -1,5 +1,4 @@
 use Rattle.study.proofs.Entries.{cichowiej_set_boundary_periodic}
-use Rattle.std.proofs.Common.{rules}
 use Rattle.api.proofs.walls.cichowiej_set_boundary_periodic.Goals as goal
 
 pub returns : goal.returns

@@ -1,5 +1,4 @@
 use Rattle.study.proofs.Entries.{cichowiej_box_region}
-use Rattle.std.proofs.Common.{rules}
 use Rattle.api.proofs.waves.cichowiej_box_region.Goals as goal
 
 pub returns : goal.returns

@@ -1,5 +1,4 @@
 use Rattle.study.proofs.Entries.{cichowiej_injector_z}
-use Rattle.std.proofs.Common.{rules}
 use Rattle.api.proofs.waves.cichowiej_injector_z.Goals as goal
 
 pub returns : goal.returns

@@ -1,6 +1,5 @@
 use mathlib.Core.Path.{refl}
 use Rattle.cpml.specs.Absorber.{active_axes}
-use Rattle.std.proofs.Common.{rules}
 use Rattle.cpml.proofs.absorber.active_axes.Goals as goal
 
 pub returns : goal.returns

@@ -1,5 +1,4 @@
 use Rattle.cpml.proofs.Axes.{active_is, never_active}
-use Rattle.std.proofs.Common.{rules}
 use Rattle.cpml.proofs.absorber.axis_active.Goals as goal
 
 pub returns-then-n-lt2 : goal.returns-then-n-lt2

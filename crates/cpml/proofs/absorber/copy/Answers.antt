@@ -1,10 +1,10 @@
 use Rattle.codec.specs.Lists.{part, put}
 use mathlib.Core.Path.{◌∙◌, ◌≡◌, ap, refl}
 use native.Mathlib.Omega.{arith}
-use Prim.Native.Nat.{◌+◌, ◌-◌, ◌≤◌}
+use Prim.Native.Nat.{◌+◌}
 use lib.Ieee.{Float, nan}
 use Rattle.cpml.proofs.Tables.{copy_more, copy_none}
-use lib.ListN.{get_or, length, length-set, set}
+use lib.ListN.{get_or, length-set, set}
 use mathlib.Core.List.{List}
 use Rattle.std.proofs.Common.{rules}
 use Rattle.cpml.proofs.absorber.copy.Goals as goal

@@ -1,11 +1,7 @@
 use Rattle.codec.specs.Lists.{part, put}
-use mathlib.Core.Path.{◌∙◌, ◌≡◌, ap, refl}
-use native.Mathlib.Omega.{arith}
-use Prim.Native.Nat.{◌+◌, ◌-◌, ◌≤◌}
-use lib.Ieee.{Float, nan}
-use Rattle.cpml.proofs.Tables.{copy_more, copy_none}
-use lib.ListN.{get_or, length, length-set, set}
-use mathlib.Core.List.{List}
+use mathlib.Core.Path.{◌≡◌}
+use Prim.Native.Nat.{◌-◌, ◌≤◌}
+use lib.ListN.{length}
 use Rattle.cpml.proofs.absorber.copy.Given as goal
 
 abbrev pub invariant-loop-i : goal.invariant-loop-i

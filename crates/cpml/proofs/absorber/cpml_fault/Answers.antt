@@ -6,7 +6,6 @@ use mathlib.Core.Bool.{Bool, ◌&&◌}
 use Rattle.grid.proofs.Settled.{judged_fault}
 use Rattle.opening.specs.Layer.{layer_long}
 use Rattle.cpml.specs.Absorber.{cpml_fault}
-use Rattle.std.proofs.Common.{rules}
 use Rattle.cpml.proofs.absorber.cpml_fault.Goals as goal
 
 pub returns : goal.returns

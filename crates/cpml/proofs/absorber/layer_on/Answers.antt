@@ -2,7 +2,6 @@ use mathlib.Core.Path.{ap}
 use Rattle.grid.specs.Edited.{with_walls}
 use mathlib.Core.Bool.{Bool, true}
 use mathlib.Core.List.{List}
-use Rattle.std.proofs.Common.{rules}
 use Rattle.cpml.proofs.absorber.layer_on.Goals as goal
 
 pub returns : goal.returns

@@ -1,6 +1,5 @@
 use Rattle.cpml.specs.Absorber.{periodic_left}
 use mathlib.Core.Path.{refl}
-use Rattle.std.proofs.Common.{rules}
 use Rattle.cpml.proofs.absorber.periodic_left.Goals as goal
 
 pub returns : goal.returns

@@ -1,4 +1,3 @@
-use Rattle.std.proofs.Common.{rules}
 use Rattle.cpml.proofs.absorber.put_axis.Goals as goal
 
 pub returns-then-on : goal.returns-then-on

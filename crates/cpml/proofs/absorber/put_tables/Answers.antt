@@ -1,5 +1,4 @@
 use Rattle.cpml.proofs.Tables.{tables_put}
-use Rattle.std.proofs.Common.{rules}
 use Rattle.cpml.proofs.absorber.put_tables.Goals as goal
 
 pub returns : goal.returns

@@ -6,7 +6,6 @@ use Rattle.grid.proofs.Settled.{taken_up, turned_down}
 use Rattle.opening.specs.Layer.{layer}
 use Rattle.cpml.specs.Absorber.{periodic_left, set_cpml_call}
 use Rattle.cpml.proofs.Tables.{absorbed_are, cpml_none}
-use Rattle.std.proofs.Common.{rules}
 use Rattle.cpml.proofs.absorber.set_boundary_cpml.Goals as goal
 
 pub returns-then-f-ne0 : goal.returns-then-f-ne0

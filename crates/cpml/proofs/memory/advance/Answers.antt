@@ -1,6 +1,5 @@
 use Rattle.cpml.specs.Memory.{advanced}
 use mathlib.Core.Path.{refl}
-use Rattle.std.proofs.Common.{rules}
 use Rattle.cpml.proofs.memory.advance.Goals as goal
 
 pub returns-then-c : goal.returns-then-c

@@ -1,6 +1,5 @@
 use mathlib.Core.Path.{refl}
 use Rattle.cpml.specs.Memory.{in_order}
-use Rattle.std.proofs.Common.{rules}
 use Rattle.cpml.proofs.memory.in_order.Goals as goal
 
 pub returns-then-electric : goal.returns-then-electric

@@ -1,6 +1,5 @@
 use Rattle.cpml.proofs.Memories.{placed}
 use mathlib.Core.Path.{refl}
-use Rattle.std.proofs.Common.{rules}
 use Rattle.cpml.proofs.memory.place.Goals as goal
 
 pub returns-in-Exy : goal.returns-in-Exy

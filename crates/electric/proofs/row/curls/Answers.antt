@@ -2,7 +2,6 @@ use mathlib.Core.Path.{◌∙◌}
 use native.Mathlib.Omega.{arith}
 use Rattle.fdtd.proofs.Trios.{trio_end, trio_as}
 use Rattle.electric.proofs.Slopes.{slope_inner, slope_first, begin_le, first_le, trio_front, trio_from}
-use Rattle.std.proofs.Common.{rules}
 use Rattle.electric.proofs.row.curls.Goals as goal
 
 pub pairs-requires : goal.pairs-requires

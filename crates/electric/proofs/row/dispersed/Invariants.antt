@@ -1,12 +1,8 @@
-use mathlib.Core.Path.{◌∙◌}
 use Prim.Native.Nat.{◌+◌, ◌-◌, ◌≤◌}
-use native.Mathlib.Nat.{le_refl}
-use native.Mathlib.Omega.{arith}
 use lib.ListN.{get_or}
 use lib.Ieee.{nan}
 use Rattle.root.specs.Rounded.{◌⊕◌, ◌⊖◌, ◌⊗◌, ◌⊘◌}
 use Rattle.fdtd.specs.Inner.Span.{Span}
-use Rattle.fdtd.proofs.Spans.{span_start, span_step, span_end}
 use Rattle.electric.proofs.row.dispersed.Given as goal
 
 abbrev pub invariant-loop-i : goal.invariant-loop-i

@@ -1,12 +1,6 @@
 use mathlib.Core.Path.{◌∙◌}
-use Prim.Native.Nat.{◌+◌, ◌-◌, ◌≤◌}
 use native.Mathlib.Omega.{arith}
-use lib.ListN.{length-set, get_or}
-use lib.Ieee.{nan}
-use Rattle.fdtd.specs.Yee.{ca, cb}
-use Rattle.fdtd.specs.Inner.Span.{Two}
-use Rattle.electric.proofs.Twos.{two_start, two_step, two_end}
-use Rattle.std.proofs.Common.{rules}
+use Rattle.electric.proofs.Twos.{two_step}
 use Rattle.electric.proofs.row.factors.Goals as goal
 
 pub loop-i-preserved : goal.loop-i-preserved

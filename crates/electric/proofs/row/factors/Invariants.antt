@@ -1,11 +1,8 @@
-use mathlib.Core.Path.{◌∙◌}
 use Prim.Native.Nat.{◌+◌, ◌-◌, ◌≤◌}
-use native.Mathlib.Omega.{arith}
-use lib.ListN.{length-set, get_or}
+use lib.ListN.{get_or}
 use lib.Ieee.{nan}
 use Rattle.fdtd.specs.Yee.{ca, cb}
 use Rattle.fdtd.specs.Inner.Span.{Two}
-use Rattle.electric.proofs.Twos.{two_start, two_step, two_end}
 use Rattle.electric.proofs.row.factors.Given as goal
 
 abbrev pub invariant-loop-i : goal.invariant-loop-i

@@ -1,6 +1,5 @@
 use Rattle.fdtd.proofs.Spans.{span_as}
 use Rattle.electric.proofs.Edges.{by_poles, by_none}
-use Rattle.std.proofs.Common.{rules}
 use Rattle.electric.proofs.row.fields.Goals as goal
 
 pub returns-then-w : goal.returns-then-w

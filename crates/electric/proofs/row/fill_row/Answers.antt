@@ -2,7 +2,6 @@ use Prim.Native.Nat.{◌-◌}
 use Rattle.root.specs.Rounded.{zero_f}
 use native.Mathlib.Omega.{arith}
 use Rattle.electric.proofs.Edges.{fill_front, fill_span, edged}
-use Rattle.std.proofs.Common.{rules}
 use Rattle.electric.proofs.row.fill_row.Goals as goal
 
 pub returns : goal.returns

@@ -1,7 +1,6 @@
 use mathlib.Core.Path.{◌∙◌}
 use native.Mathlib.Omega.{arith}
 use Rattle.electric.proofs.Whole.{row_whole}
-use Rattle.std.proofs.Common.{rules}
 use Rattle.electric.proofs.row.row.Goals as goal
 
 pub layer-requires : goal.layer-requires

@@ -2,7 +2,6 @@ use mathlib.Core.Path.{refl}
 use native.Mathlib.Omega.{arith}
 use Rattle.fdtd.proofs.Singles.{lone_set}
 use Rattle.electric.proofs.Shorts.{moved_on, walled_off}
-use Rattle.std.proofs.Common.{rules}
 use Rattle.electric.proofs.short.component.Goals as goal
 
 pub curl_along-curl-requires : goal.curl_along-curl-requires

@@ -1,5 +1,4 @@
 use Rattle.electric.proofs.Shorts.{term_on, term_off}
-use Rattle.std.proofs.Common.{rules}
 use Rattle.electric.proofs.short.term_of.Goals as goal
 
 pub returns-then-w : goal.returns-then-w

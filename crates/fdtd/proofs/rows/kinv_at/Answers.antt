@@ -1,5 +1,4 @@
 use Rattle.fdtd.specs.Inner.Rows.{k_of}
-use Rattle.std.proofs.Common.{rules}
 use Rattle.fdtd.proofs.rows.kinv_at.Goals as goal
 
 pub returns : goal.returns

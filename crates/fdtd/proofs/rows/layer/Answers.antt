@@ -1,7 +1,6 @@
 use native.Mathlib.Omega.{arith}
 use Rattle.fdtd.proofs.Spans.{span_kept}
 use Rattle.fdtd.proofs.Sides.{layer_scr, layer_mem, lay_off, mem_off}
-use Rattle.std.proofs.Common.{rules}
 use Rattle.fdtd.proofs.rows.layer.Goals as goal
 
 pub returns-then-s : goal.returns-then-s

@@ -1,15 +1,9 @@
-use mathlib.Core.Path.{◌∙◌, ap}
 use Prim.Native.Nat.{◌+◌, ◌-◌, ◌≤◌}
-use native.Mathlib.Nat.{le_refl}
-use native.Mathlib.Omega.{arith}
 use lib.ListN.{get_or}
 use lib.Ieee.{nan}
-use Rattle.cpml.specs.declared.Advanced.{Advanced}
 use Rattle.fdtd.specs.Yee.{mem_next, layered}
 use Rattle.fdtd.specs.Inner.Rows.{k_of}
 use Rattle.fdtd.specs.Inner.Span.{Span}
-use Rattle.fdtd.proofs.Cellwise.{live_law, mem_law}
-use Rattle.fdtd.proofs.Spans.{span_start, span_step, span_end}
 use Rattle.fdtd.proofs.rows.live.Given as goal
 
 abbrev pub invariant-loop-i : goal.invariant-loop-i

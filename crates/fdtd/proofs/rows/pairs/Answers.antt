@@ -1,13 +1,6 @@
-use Rattle.root.specs.Constants.{c0}
-use Rattle.fdtd.specs.Inner.Span.{Trio}
-use lib.Ieee.{nan}
 use mathlib.Core.Path.{◌∙◌}
 use native.Mathlib.Omega.{arith}
-use Rattle.fdtd.specs.Yee.{slope}
-use Prim.Native.Nat.{◌+◌, ◌-◌, ◌≤◌}
 use Rattle.fdtd.proofs.Trios.{slope_from, trio_end, trio_start, trio_step}
-use lib.ListN.{get_or}
-use Rattle.std.proofs.Common.{rules}
 use Rattle.fdtd.proofs.rows.pairs.Goals as goal
 
 pub loop-i-init : goal.loop-i-init

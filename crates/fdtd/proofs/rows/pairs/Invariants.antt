@@ -1,11 +1,7 @@
-use Rattle.root.specs.Constants.{c0}
 use Rattle.fdtd.specs.Inner.Span.{Trio}
 use lib.Ieee.{nan}
-use mathlib.Core.Path.{◌∙◌}
-use native.Mathlib.Omega.{arith}
 use Rattle.fdtd.specs.Yee.{slope}
 use Prim.Native.Nat.{◌+◌, ◌-◌, ◌≤◌}
-use Rattle.fdtd.proofs.Trios.{slope_from, trio_end, trio_start, trio_step}
 use lib.ListN.{get_or}
 use Rattle.fdtd.proofs.rows.pairs.Given as goal
 

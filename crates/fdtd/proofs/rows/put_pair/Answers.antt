@@ -1,8 +1,6 @@
 use mathlib.Core.Path.{refl}
 use native.Mathlib.Omega.{arith}
-use lib.ListN.{length-set}
 use Rattle.fdtd.proofs.Trios.{put_law}
-use Rattle.std.proofs.Common.{rules}
 use Rattle.fdtd.proofs.rows.put_pair.Goals as goal
 
 pub returns : goal.returns

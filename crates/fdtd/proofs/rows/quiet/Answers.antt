@@ -1,15 +1,8 @@
 use mathlib.Core.Path.{◌∙◌}
-use Prim.Native.Nat.{◌+◌, ◌-◌, ◌≤◌}
+use Prim.Native.Nat.{◌+◌}
 use native.Mathlib.Nat.{le_refl}
 use native.Mathlib.Omega.{arith}
-use lib.ListN.{get_or}
-use lib.Ieee.{nan}
-use Rattle.root.specs.Rounded.{◌⊖◌, ◌⊗◌, zero_f, one_f}
-use Rattle.fdtd.specs.Yee.{joins}
-use Rattle.fdtd.specs.Inner.Rows.{k_of}
-use Rattle.fdtd.specs.Inner.Span.{Span}
 use Rattle.fdtd.proofs.Spans.{span_start, span_step, span_end}
-use Rattle.std.proofs.Common.{rules}
 use Rattle.fdtd.proofs.rows.quiet.Goals as goal
 
 pub loop-i-init : goal.loop-i-init

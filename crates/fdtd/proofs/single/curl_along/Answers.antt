@@ -1,7 +1,6 @@
 use mathlib.Core.Path.{refl, ◌∙◌}
 use mathlib.Core.Bool.{true}
 use Rattle.fdtd.proofs.Singles.{curl_taken, memories_taken}
-use Rattle.std.proofs.Common.{rules}
 use Rattle.fdtd.proofs.single.curl_along.Goals as goal
 
 pub returns : goal.returns

@@ -1,5 +1,4 @@
 use Rattle.fdtd.proofs.Singles.{curl_both, memory_both}
-use Rattle.std.proofs.Common.{rules}
 use Rattle.fdtd.proofs.single.curl_of.Goals as goal
 
 pub returns : goal.returns

@@ -1,5 +1,4 @@
 use mathlib.Core.Path.{◌∙◌}
-use Rattle.std.proofs.Common.{rules}
 use Rattle.fdtd.proofs.single.deriv_of.Goals as goal
 
 pub returns : goal.returns

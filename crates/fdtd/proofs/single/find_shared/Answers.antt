@@ -1,5 +1,4 @@
 use Rattle.fdtd.proofs.Beside.{known_of}
-use Rattle.std.proofs.Common.{rules}
 use Rattle.fdtd.proofs.single.find_shared.Goals as goal
 
 pub returns : goal.returns

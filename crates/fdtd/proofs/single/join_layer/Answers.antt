@@ -3,7 +3,6 @@ use mathlib.Core.Bool.{true}
 use Rattle.cpml.specs.declared.Advanced.{Advanced}
 use Rattle.fdtd.proofs.Singles.{lone_set, lone_kept, layer_on, layer_off}
 use Rattle.fdtd.proofs.Cellwise.{memory_moves, memory_off}
-use Rattle.std.proofs.Common.{rules}
 use Rattle.fdtd.proofs.single.join_layer.Goals as goal
 
 pub returns-then-on : goal.returns-then-on

@@ -1,4 +1,3 @@
-use Rattle.std.proofs.Common.{rules}
 use Rattle.fdtd.proofs.turns.across.Goals as goal
 
 pub returns : goal.returns

@@ -1,7 +1,6 @@
 use native.Mathlib.Nat.{mul-le-mul}
 use Prim.Native.Nat.{◌*◌, ◌≤◌}
 use native.Mathlib.Omega.{arith}
-use Rattle.std.proofs.Common.{rules}
 use Rattle.fdtd.proofs.turns.axis_x.Goals as goal
 
 pub overflow_mul-result : goal.overflow_mul-result

@@ -1,7 +1,6 @@
 use native.Mathlib.Nat.{mul-le-mul}
 use native.Mathlib.Omega.{arith}
 use Prim.Native.Nat.{◌*◌, ◌≤◌}
-use Rattle.std.proofs.Common.{rules}
 use Rattle.fdtd.proofs.turns.axis_y.Goals as goal
 
 pub overflow_mul-result-3 : goal.overflow_mul-result-3

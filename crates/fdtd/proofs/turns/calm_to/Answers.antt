@@ -1,12 +1,11 @@
 use mathlib.Core.Path.{◌≡◌, sym}
-use Prim.Native.Nat.{ℕ, ◌+◌, ◌-◌, ◌≤◌, ◌<◌}
+use Prim.Native.Nat.{◌+◌, ◌≤◌}
 use mathlib.Core.Bool.{true}
 use native.Mathlib.Omega.{arith}
 use borrow.Author.Count.{below_more}
 use lib.ListN.{get_or}
 use lib.Ieee.{nan, eq}
 use Rattle.root.specs.Rounded.{zero_f}
-use Rattle.std.proofs.Common.{rules}
 use Rattle.fdtd.proofs.turns.calm_to.Goals as goal
 
 pub loop-i-init : goal.loop-i-init

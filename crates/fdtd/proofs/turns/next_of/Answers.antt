@@ -1,6 +1,5 @@
 use native.Mathlib.Omega.{arith}
 use borrow.Author.Tests.{lt-ltb, le-ltb}
-use Rattle.std.proofs.Common.{rules}
 use Rattle.fdtd.proofs.turns.next_of.Goals as goal
 
 pub returns-then-p-n : goal.returns-then-p-n

@@ -3,7 +3,6 @@ use Prim.Native.Nat.{◌+◌, ◌*◌, ◌≤◌}
 use native.Mathlib.Nat.{mul-le-mul}
 use native.Mathlib.Omega.{arith}
 use Rattle.fdtd.proofs.Places.{row_in}
-use Rattle.std.proofs.Common.{rules}
 use Rattle.fdtd.proofs.turns.row_at.Goals as goal
 
 pub overflow_mul-result : goal.overflow_mul-result

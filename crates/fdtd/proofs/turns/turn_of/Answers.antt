@@ -1,5 +1,4 @@
 use borrow.Author.Tests.{eq-eqb, ne_eqb}
-use Rattle.std.proofs.Common.{rules}
 use Rattle.fdtd.proofs.turns.turn_of.Goals as goal
 
 pub returns-then-r-eq1-2 : goal.returns-then-r-eq1-2

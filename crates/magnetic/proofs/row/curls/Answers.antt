@@ -3,7 +3,6 @@ use Prim.Native.Nat.{◌-◌}
 use native.Mathlib.Omega.{arith}
 use Rattle.fdtd.proofs.Trios.{trio_step, trio_end, trio_as}
 use Rattle.magnetic.proofs.Slopes.{slope_inner, slope_last, slope_across, begin_le, last_le, neither_x, neither_y}
-use Rattle.std.proofs.Common.{rules}
 use Rattle.magnetic.proofs.row.curls.Goals as goal
 
 pub pairs-requires : goal.pairs-requires

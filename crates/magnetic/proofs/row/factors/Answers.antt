@@ -1,12 +1,6 @@
 use mathlib.Core.Path.{◌∙◌}
-use Prim.Native.Nat.{◌+◌, ◌-◌, ◌≤◌}
 use native.Mathlib.Omega.{arith}
-use lib.ListN.{get_or}
-use lib.Ieee.{nan}
-use Rattle.fdtd.specs.Yee.{factor}
-use Rattle.fdtd.specs.Inner.Span.{Span}
-use Rattle.fdtd.proofs.Spans.{span_start, span_step, span_end}
-use Rattle.std.proofs.Common.{rules}
+use Rattle.fdtd.proofs.Spans.{span_step, span_end}
 use Rattle.magnetic.proofs.row.factors.Goals as goal
 
 pub loop-i-preserved : goal.loop-i-preserved

@@ -1,7 +1,5 @@
-use mathlib.Core.Path.{◌∙◌}
 use native.Mathlib.Omega.{arith}
 use Rattle.magnetic.proofs.Whole.{row_whole}
-use Rattle.std.proofs.Common.{rules}
 use Rattle.magnetic.proofs.row.row.Goals as goal
 
 pub layer-requires : goal.layer-requires

@@ -3,7 +3,6 @@ use native.Mathlib.Omega.{arith}
 use Rattle.fdtd.proofs.Lines.{fit_as}
 use Rattle.fdtd.proofs.Beside.{near_r, near_s, near_t}
 use Rattle.magnetic.proofs.Shorts.{cell_shared}
-use Rattle.std.proofs.Common.{rules}
 use Rattle.magnetic.proofs.short.cell.Goals as goal
 
 pub at-requires : goal.at-requires

@@ -1,15 +1,9 @@
-use mathlib.Core.Path.{◌≡◌, refl, ◌∙◌}
-use mathlib.Core.List.{List}
-use Prim.Native.Nat.{zero-le, ◌+◌, ◌*◌, ◌-◌, ◌≤◌}
+use mathlib.Core.Path.{refl, ◌∙◌}
+use Prim.Native.Nat.{zero-le}
 use native.Mathlib.Omega.{arith}
-use lib.ListN.{length}
-use lib.Ieee.{Float}
 use Rattle.fdtd.proofs.Lines.{fit_as}
 use Rattle.fdtd.proofs.Singles.{doing_start, doing_end}
 use Rattle.fdtd.proofs.Beside.{known_as}
-use Rattle.magnetic.specs.Inner.Swept.{Swept}
-use Rattle.magnetic.specs.Inner.Celled.{Sweeping}
-use Rattle.std.proofs.Common.{rules}
 use Rattle.magnetic.proofs.short.cells_of_row.Goals as goal
 
 pub find_shared-v-requires : goal.find_shared-v-requires

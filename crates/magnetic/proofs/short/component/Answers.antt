@@ -1,7 +1,6 @@
 use native.Mathlib.Omega.{arith}
 use Rattle.fdtd.proofs.Singles.{lone_set}
 use Rattle.magnetic.proofs.Shorts.{moved_on, stood}
-use Rattle.std.proofs.Common.{rules}
 use Rattle.magnetic.proofs.short.component.Goals as goal
 
 pub curl_along-curl-requires : goal.curl_along-curl-requires

@@ -1,13 +1,8 @@
 use mathlib.Core.Path.{◌≡◌, refl, ◌∙◌}
-use mathlib.Core.List.{List}
-use Prim.Native.Nat.{zero-le, ◌+◌, ◌*◌, ◌-◌, ◌≤◌}
+use Prim.Native.Nat.{zero-le}
 use native.Mathlib.Omega.{arith}
-use lib.ListN.{length}
-use lib.Ieee.{Float}
 use Rattle.fdtd.proofs.Places.{row_more}
 use Rattle.fdtd.proofs.Lines.{done_as, done_start, fit_as}
-use Rattle.magnetic.specs.Inner.Swept.{Swept}
-use Rattle.std.proofs.Common.{rules}
 use Rattle.magnetic.proofs.short.sweep_cells.Goals as goal
 
 pub loop-t-init : goal.loop-t-init

@@ -1,6 +1,5 @@
 use mathlib.Core.Path.{sym, ◌∙◌}
 use Rattle.on_block.proofs.Passing.{add_ill, add_well}
-use Rattle.std.proofs.Common.{rules}
 use Rattle.on_block.proofs.library.add_bytes.Goals as goal
 
 pub returns-then-bytes-ne0 : goal.returns-then-bytes-ne0

@@ -1,9 +1,7 @@
-use mathlib.Core.Path.{refl}
 use Rattle.grid.proofs.Tests.{unless, met}
 use Rattle.block.proofs.Turns.{block_long}
 use Rattle.read_block.proofs.Passing.{answering_of}
 use Rattle.on_block.proofs.Passing.{ill_kept, well}
-use Rattle.std.proofs.Common.{rules}
 use Rattle.on_block.proofs.library.add_material.Goals as goal
 
 pub returns-then-not-is_record : goal.returns-then-not-is_record

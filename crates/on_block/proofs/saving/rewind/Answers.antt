@@ -1,5 +1,4 @@
 use Rattle.on_block.proofs.Passing.{rewind_ill, rewind_well}
-use Rattle.std.proofs.Common.{rules}
 use Rattle.on_block.proofs.saving.rewind.Goals as goal
 
 pub returns-then-b-ne-BLOCK_LENGTH : goal.returns-then-b-ne-BLOCK_LENGTH

@@ -1,7 +1,6 @@
 use mathlib.Core.Path.{refl}
 use Rattle.grid.proofs.Tests.{unless, met}
 use Rattle.read_block.proofs.Passing.{unread, reads}
-use Rattle.std.proofs.Common.{rules}
 use Rattle.on_block.proofs.saving.save.Goals as goal
 
 pub returns-then-not-is_record : goal.returns-then-not-is_record

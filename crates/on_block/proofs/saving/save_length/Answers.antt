@@ -1,6 +1,5 @@
 use Rattle.grid.proofs.Tests.{unless, met}
 use Rattle.read_block.proofs.Passing.{unread, answering_of, reads}
-use Rattle.std.proofs.Common.{rules}
 use Rattle.on_block.proofs.saving.save_length.Goals as goal
 
 pub returns-then-not-is_record : goal.returns-then-not-is_record

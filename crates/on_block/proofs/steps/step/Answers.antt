@@ -1,9 +1,7 @@
-use mathlib.Core.Path.{refl}
 use Rattle.grid.proofs.Tests.{unless, met}
 use Rattle.block.proofs.Turns.{block_long}
 use Rattle.on_block.proofs.Passing.{clock_ill, clock_well}
 use Rattle.on_block.proofs.Vacuum.{step_vacuum}
-use Rattle.std.proofs.Common.{rules}
 use Rattle.on_block.proofs.steps.step.Goals as goal
 
 pub returns-then-not-is_record : goal.returns-then-not-is_record

@@ -1,5 +1,4 @@
 use Rattle.on_block.proofs.Passing.{open_ill, open_well}
-use Rattle.std.proofs.Common.{rules}
 use Rattle.on_block.proofs.studies.open.Goals as goal
 
 pub returns-then-b-ne-BLOCK_LENGTH : goal.returns-then-b-ne-BLOCK_LENGTH

@@ -1,8 +1,6 @@
-use mathlib.Core.Path.{refl}
 use Rattle.grid.proofs.Tests.{unless, met}
 use Rattle.block.proofs.Turns.{block_long}
 use Rattle.on_block.proofs.Passing.{ill, well}
-use Rattle.std.proofs.Common.{rules}
 use Rattle.on_block.proofs.waves.slab_z.Goals as goal
 
 pub returns-then-not-is_record : goal.returns-then-not-is_record

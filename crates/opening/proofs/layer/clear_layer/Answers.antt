@@ -1,6 +1,5 @@
 use mathlib.Core.Path.{refl}
 use Rattle.opening.specs.Layer.{cleared_layer}
-use Rattle.std.proofs.Common.{rules}
 use Rattle.opening.proofs.layer.clear_layer.Goals as goal
 
 pub returns : goal.returns

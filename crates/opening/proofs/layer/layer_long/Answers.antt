@@ -1,6 +1,5 @@
 use Rattle.opening.specs.Layer.{layer_long}
 use mathlib.Core.Path.{refl}
-use Rattle.std.proofs.Common.{rules}
 use Rattle.opening.proofs.layer.layer_long.Goals as goal
 
 pub returns : goal.returns

@@ -14,7 +14,7 @@ EXAMPLE := office-80
 curve:
 	@$(MAKE) --no-print-directory setup
 	@$(MAKE) --no-print-directory --question engine 2>/dev/null && echo "1 of 3: the engine is proved already" \
-	  || echo "1 of 3: the engine is proved and compiled, about 10 minutes from nothing"
+	  || echo "1 of 3: the engine is proved and compiled, which takes longest the first time"
 	@$(MAKE) --no-print-directory engine
 	@echo "2 of 3: the command is built, about a minute the first time"
 	@$(MAKE) --no-print-directory command

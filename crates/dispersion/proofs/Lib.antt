@@ -1,3 +1,3 @@
 -- Laws that the functions' proofs, and the crates above, cite.
-pub mod Finite
+pub mod Stepped
 pub mod Places

@@ -3,10 +3,11 @@
 -- each coefficient rounded in the Rust's order. Definitions only.
 use Rattle.std.specs.Prelude.{ℕ, Bool, cond, ◌&&◌, Float}
 use Rattle.std.specs.Float.Ieee.{neg}
-use Rattle.std.specs.Float.Ieee.Scale.{finite}
+use Rattle.std.specs.Float.{float_is_finite}
+use Rattle.refusals.specs.declared.Refusal.TheVariants.{BadPole}
+use Rattle.refusals.specs.Refusals.{number}
 use Rattle.root.specs.Rounded.{◌⊕◌, ◌⊖◌, ◌⊗◌, ◌⊘◌, zero_f, one_f, two_f}
 use Rattle.dispersion.specs.declared.AdeCoeffs.{AdeCoeffs}
-use Rattle.dispersion.specs.declared.Turned.{Turned}
 use Rattle.dispersion.specs.declared.Pole.{Pole}
 use Rattle.dispersion.specs.declared.Pole.TheVariants.{Lorentz, Drude, Debye}
 
@@ -32,11 +33,10 @@ ade_coeffs eps0 dt (Debye Δε τ) = first_order eps0 Δε τ dt
 
 -- ---- 19 BadPole: a pole that cannot be stepped (document 02, S-2), since a1, a2 or a3 is infinite or NaN
 abbrev pub bad_pole : ℕ
-bad_pole = 19
+bad_pole = number BadPole
 
 unfoldable pub pole_steps : (eps0 dt : Float) → Pole → Bool
-pole_steps eps0 dt p = let k = ade_coeffs eps0 dt p in finite k.a1 && finite k.a2 && finite k.a3
+pole_steps eps0 dt p = let k = ade_coeffs eps0 dt p in float_is_finite k.a1 && float_is_finite k.a2 && float_is_finite k.a3
 
--- a pole turned into its coefficients, with 19 where it cannot be stepped by them
-unfoldable pub turned : (eps0 dt : Float) → Pole → Turned
-turned eps0 dt p = record { refusal = cond (pole_steps eps0 dt p) 0 bad_pole; coeffs = ade_coeffs eps0 dt p }
+unfoldable pub pole_fault : (eps0 dt : Float) → Pole → ℕ
+pole_fault eps0 dt p = cond (pole_steps eps0 dt p) 0 bad_pole

@@ -2,17 +2,16 @@
 use Rattle.std.specs.Prelude.{ℕ, ◌+◌, cond, ltb, replicate, set, get_or, Float}
 use Rattle.root.specs.Rounded.{zero_f, one_f}
 use Rattle.dispersion.specs.declared.DispersiveMaterial.{DispersiveMaterial}
-use Rattle.dispersion.specs.declared.PoleSlot.{PoleSlot}
 use Rattle.dispersion.specs.declared.Pole.{Pole}
 use Rattle.dispersion.specs.declared.Pole.TheVariants.{Debye}
 
 -- what stands in a place that no pole is counted in
-abbrev pub blank_slot : PoleSlot
-blank_slot = record { pole = Debye zero_f zero_f }
+abbrev pub blank_slot : Pole
+blank_slot = Debye zero_f zero_f
 
 -- the pole in a place
 abbrev pub pole_in : DispersiveMaterial → (slot : ℕ) → Pole
-pole_in m slot = (get_or m.poles slot blank_slot).pole
+pole_in m slot = get_or m.poles slot blank_slot
 
 -- no poles, no loss, not magnetic
 abbrev pub plain : Float → DispersiveMaterial
@@ -30,7 +29,7 @@ pushed m p =
       sigma = m.sigma;
       mu_r = m.mu_r;
       pole_count = cond (ltb n 4) (n + 1) 5;
-      poles = cond (ltb n 4) (set m.poles n (record { pole = p })) m.poles;
+      poles = cond (ltb n 4) (set m.poles n p) m.poles;
     }
 
 unfoldable pub one_pole : Float → Pole → DispersiveMaterial

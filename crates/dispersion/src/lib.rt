@@ -1,15 +1,15 @@
 // Materials with poles, and the coefficients of the recursion that steps a pole's polarization.
 #![tactic(auto)]
 
-ghost use Rattle.std.specs.Prelude.{◌≡◌};
-ghost use Rattle.std.specs.Float.Ieee.Scale.{finite};
-ghost use Rattle.dispersion.specs.Ade.{second_order, ade_coeffs, turned};
+ghost use Rattle.std.specs.Prelude.{◌≡◌, IfOk};
+ghost use Rattle.refusals.specs.Refusals.{code};
+ghost use Rattle.dispersion.specs.Ade.{second_order, ade_coeffs, pole_fault};
 ghost use Rattle.dispersion.specs.Material.{blank_slot, vacuum_material, plain, one_pole, pushed, conducting};
+
+use refusals::{Refusal, require};
 
 // The pole places of a material.
 pub const MAX_POLES: usize = 4;
-
-pub const BAD_POLE: u32 = 19;
 
 #[derive(Clone, Copy)]
 pub enum Pole {
@@ -28,25 +28,12 @@ pub enum Pole {
     },
 }
 
-// A place for a pole. A field cannot be an array of enums, so the enum stands in a struct.
-#[derive(Clone, Copy)]
-pub struct PoleSlot {
-    pub pole: Pole,
-}
-
 // P(n+1) = a1 P(n) + a2 P(n-1) + a3 E(n).
 #[derive(Clone, Copy)]
 pub struct AdeCoeffs {
     pub a1: f64,
     pub a2: f64,
     pub a3: f64,
-}
-
-// A pole's coefficients as they are, and BAD_POLE where one of them is not finite.
-#[derive(Clone, Copy)]
-pub struct Turned {
-    pub refusal: u32,
-    pub coeffs: AdeCoeffs,
 }
 
 // The first pole_count places hold the poles; what stands in the others means nothing.
@@ -56,7 +43,7 @@ pub struct DispersiveMaterial {
     pub sigma: f64,
     pub mu_r: f64,
     pub pole_count: usize,
-    pub poles: [PoleSlot; 4],
+    pub poles: [Pole; 4],
 }
 
 fn second_order_coeffs(eps0: f64, a: f64, omega0: f64, gamma: f64, dt: f64) -> AdeCoeffs
@@ -70,14 +57,9 @@ fn second_order_coeffs(eps0: f64, a: f64, omega0: f64, gamma: f64, dt: f64) -> A
     }
 }
 
-fn is_finite(x: f64) -> bool
-    ensures { result ≡ finite x }
-{
-    (-1.0 / 0.0 < x) & (x < 1.0 / 0.0)
-}
-
 impl Pole {
-    fn coeffs(self, eps0: f64, dt: f64) -> AdeCoeffs
+    // The coefficients as they are, infinite or NaN ones too.
+    pub fn coeffs(self, eps0: f64, dt: f64) -> AdeCoeffs
         ensures { result ≡ ade_coeffs eps0 dt self }
     {
         match self {
@@ -97,27 +79,28 @@ impl Pole {
         }
     }
 
-    pub fn ade_coeffs(self, eps0: f64, dt: f64) -> Turned
-        ensures { result ≡ turned eps0 dt self }
+    // Of a pole that can be stepped by them.
+    #[tactic(auto, unfolding(crate::specs::Ade::pole_fault, crate::specs::Ade::pole_steps))]
+    pub fn ade_coeffs(self, eps0: f64, dt: f64) -> Result<AdeCoeffs, Refusal>
+        ensures fault { code result ≡ pole_fault eps0 dt self }
+        ensures coeffs { IfOk result (λ k. k ≡ ade_coeffs eps0 dt self) }
     {
         let k = self.coeffs(eps0, dt);
-        let steps = is_finite(k.a1) & is_finite(k.a2) & is_finite(k.a3);
-        Turned {
-            refusal: if steps { 0 } else { BAD_POLE },
-            coeffs: k,
-        }
+        require(
+            k.a1.is_finite() & k.a2.is_finite() & k.a3.is_finite(),
+            Refusal::BadPole,
+        )?;
+        Ok(k)
     }
 }
 
 // What stands in a place that no pole is counted in.
-pub fn blank_slot() -> PoleSlot
+pub fn blank_slot() -> Pole
     ensures { result ≡ blank_slot }
 {
-    PoleSlot {
-        pole: Pole::Debye {
-            delta_eps: 0.0,
-            tau: 0.0,
-        },
+    Pole::Debye {
+        delta_eps: 0.0,
+        tau: 0.0,
     }
 }
 
@@ -131,14 +114,13 @@ impl DispersiveMaterial {
     pub fn non_dispersive(eps_inf: f64) -> Self
         ensures { result ≡ plain eps_inf }
     {
-        let slot = blank_slot();
-        let poles = [slot; 4];
+        let poles = [blank_slot(); 4];
         DispersiveMaterial {
-            eps_inf: eps_inf,
+            eps_inf,
             sigma: 0.0,
             mu_r: 1.0,
             pole_count: 0,
-            poles: poles,
+            poles,
         }
     }
 
@@ -146,8 +128,8 @@ impl DispersiveMaterial {
         ensures { result ≡ one_pole eps_inf (Pole.Drude omega_p gamma) }
     {
         Self::non_dispersive(eps_inf).with_pole(Pole::Drude {
-            omega_p: omega_p,
-            gamma: gamma,
+            omega_p,
+            gamma,
         })
     }
 
@@ -155,9 +137,9 @@ impl DispersiveMaterial {
         ensures { result ≡ one_pole eps_inf (Pole.Lorentz delta_eps omega0 gamma) }
     {
         Self::non_dispersive(eps_inf).with_pole(Pole::Lorentz {
-            delta_eps: delta_eps,
-            omega0: omega0,
-            gamma: gamma,
+            delta_eps,
+            omega0,
+            gamma,
         })
     }
 
@@ -165,8 +147,8 @@ impl DispersiveMaterial {
         ensures { result ≡ one_pole eps_inf (Pole.Debye delta_eps tau) }
     {
         Self::non_dispersive(eps_inf).with_pole(Pole::Debye {
-            delta_eps: delta_eps,
-            tau: tau,
+            delta_eps,
+            tau,
         })
     }
 
@@ -177,7 +159,7 @@ impl DispersiveMaterial {
         let n = self.pole_count;
         let mut out = self;
         if n < MAX_POLES {
-            out.poles[n] = PoleSlot { pole: pole };
+            out.poles[n] = pole;
             out.pole_count = n + 1;
         } else {
             out.pole_count = MAX_POLES + 1;

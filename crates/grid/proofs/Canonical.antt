@@ -9,7 +9,6 @@ use lib.Dec.{leb}
 use lib.ListN.{get_or}
 use lib.Ieee.{Float}
 use Rattle.dispersion.specs.declared.DispersiveMaterial.{DispersiveMaterial}
-use Rattle.dispersion.specs.declared.PoleSlot.{PoleSlot}
 use Rattle.dispersion.specs.Ade.{pole_steps}
 use Rattle.dispersion.specs.Material.{blank_slot, pole_in, vacuum_material}
 use Rattle.grid.specs.declared.RegionKind.{RegionKind}
@@ -79,7 +78,7 @@ first_kept (suc n) (suc i) d (x ∷ l) h = first_kept n i d l (le_of_suc-le-suc 
 
 pub pole_kept : (m : DispersiveMaterial) (i : ℕ) → i < m.pole_count → pole_in (canon_material m) i ≡ pole_in m i
 unfolding canon_material
-pole_kept m i h = ap (λ (s : PoleSlot). s.pole) (first_kept m.pole_count i blank_slot m.poles h)
+pole_kept m i h = first_kept m.pole_count i blank_slot m.poles h
 
 -- ---- faults
 -- a material fits as its canon does

@@ -4,24 +4,35 @@ use native.Mathlib.Omega.{arith}
 use mathlib.Core.Path.{◌≡◌, refl, ap, ◌∙◌}
 use mathlib.Core.Bool.{Bool, true, ◌&&◌}
 use borrow.Author.Tests.{eqb-true}
+use Rattle.std.proofs.Common.{Result, IsErr}
+use Rattle.refusals.specs.declared.Refusal.{Refusal}
+use Rattle.refusals.specs.Refusals.{code}
+use Rattle.refusals.proofs.Numbers.{some}
 use Rattle.grid.specs.declared.Record.{Record}
 use Rattle.grid.specs.declared.stores.Lengths.{Lengths}
-use Rattle.grid.specs.declared.stores.Judged.{Judged}
 use Rattle.grid.specs.Fault.{fault_of}
 use Rattle.grid.specs.Inner.Sound.{Sound}
-use Rattle.grid.specs.Stores.{outcome, settle, store_lengths, same_lengths, lent_fault, fault_lent, fault_with}
-use Rattle.grid.specs.Inner.Judging.{no_lengths, judged_by, judged}
+use Rattle.grid.specs.Stores.{outcome, settle, or_else, store_lengths, same_lengths, lent_fault, fault_lent, fault_with}
 use Rattle.grid.proofs.Tests.{and_left, and_right, first_none, or_none}
 use Rattle.grid.proofs.Judging.{sound}
 
--- f is the fault n of a definition, and it is one, or none
-pub turned_down : {A : Type 0} (f n : ℕ) (r r' : Record) (s s' : A) → f ≡ n → (f ≡ 0 → ⊥) → outcome f r s ≡ settle n r s r' s'
-turned_down f zero r r' s s' e h = absurd (h e)
-turned_down f (suc n) r r' s s' e h = rw e
+-- the fault n of a definition is a call's refusal, or there is none
+pub turned_down : {A B : Type 0} (x : Result B Refusal) {n : ℕ} {r : Record} (r' : Record) {s : A} (s' : A) → IsErr x → code x ≡ n →
+    outcome (code x) r s ≡ settle n r s r' s'
+turned_down x {n = zero} r' s' p e = absurd (some x p e)
+turned_down x {n = suc n} r' s' p e = rw e
 
-pub taken_up : {A : Type 0} (f n : ℕ) (r q r' : Record) (s t s' : A) → f ≡ n → f ≡ 0 → q ≡ r' → t ≡ s' → outcome 0 q t ≡ settle n r s r' s'
-taken_up f zero r q r' s t s' e h a b = rw (a, b)
-taken_up f (suc n) r q r' s t s' e h a b = absurd (let z : ⊥ = omega arith in z)
+pub own_fault : {B : Type 0} (x : Result B Refusal) {n : ℕ} (m : ℕ) → IsErr x → code x ≡ n → code x ≡ or_else n m
+own_fault x {n = zero} m p e = absurd (some x p e)
+own_fault x {n = suc n} m p e = e
+
+pub later_fault : {n m x : ℕ} → 0 ≡ n → x ≡ m → x ≡ or_else n m
+later_fault {n = zero} e q = q
+later_fault {n = suc n} e q = absurd (let z : ⊥ = omega arith in z)
+
+pub taken_up : {A : Type 0} {n : ℕ} (r : Record) {q r' : Record} (s : A) {t s' : A} → 0 ≡ n → q ≡ r' → t ≡ s' → outcome 0 q t ≡ settle n r s r' s'
+taken_up {n = zero} r s e a b = rw (a, b)
+taken_up {n = suc n} r s e a b = absurd (let z : ⊥ = omega arith in z)
 
 both_of : (a b : Bool) → (a && b) ≡ true → (a ≡ true) × (b ≡ true)
 both_of a b e = (and_left a b e, and_right a b e)
@@ -55,16 +66,6 @@ same_lengths_lem a b e =
     let same : remade a ≡ remade b = cc in
     same
 
--- f is the fault that a call finds with its own test of lengths, done on what `judge` answered
-judged_at_lem : (n : ℕ) (r : Record) (test : Lengths → Bool) → lent_fault (judged_by n r).refusal (test (judged_by n r).lengths) ≡ lent_fault n (test (store_lengths r))
-judged_at_lem zero r test = refl
-judged_at_lem (suc n) r test = refl
-
-pub judged_fault : (r : Record) (test : Lengths → Bool) (j : Judged) (f : ℕ) → j ≡ judged r → f ≡ lent_fault j.refusal (test j.lengths) →
-    f ≡ fault_lent r (test (store_lengths r))
-unfolding judged fault_lent
-judged_fault r test j f p q = q ∙ ap (λ (k : Judged). lent_fault k.refusal (test k.lengths)) p ∙ judged_at_lem (fault_of r) r test
-
 -- no fault among the first four: the record is sound, and what is lent passed
 pub lent_none : (r : Record) (fits : Bool) → fault_lent r fits ≡ 0 → Sound r × (fits ≡ true)
 unfolding fault_lent
@@ -78,20 +79,3 @@ with_none r l e =
 -- the opened record is the one that was judged
 pub fault_at : (f : ℕ) (q r : Record) (l : Lengths) → f ≡ fault_with q l → q ≡ r → f ≡ fault_with r l
 fault_at f q r l e h = rw h at e
-
--- a record judged: at fault, or not
-pub judged_ill : (r : Record) (f : ℕ) → f ≡ fault_of r → (f ≡ 0 → ⊥) → record { refusal = f; lengths = no_lengths } ≡ judged r
-unfolding judged
-judged_ill r f e h = ill f (fault_of r) e h
-  where
-    ill : (f n : ℕ) → f ≡ n → (f ≡ 0 → ⊥) → record { refusal = f; lengths = no_lengths } ≡ judged_by n r
-    ill f zero e h = absurd (h e)
-    ill f (suc n) e h = rw e
-
-pub judged_well : (r : Record) (f : ℕ) (l : Lengths) → f ≡ fault_of r → f ≡ 0 → l ≡ store_lengths r → record { refusal = 0; lengths = l } ≡ judged r
-unfolding judged
-judged_well r f l e h q = well f (fault_of r) e h
-  where
-    well : (f n : ℕ) → f ≡ n → f ≡ 0 → record { refusal = 0; lengths = l } ≡ judged_by n r
-    well f zero e h = rw q
-    well f (suc n) e h = absurd (let z : ⊥ = omega arith in z)

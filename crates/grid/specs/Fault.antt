@@ -2,6 +2,8 @@
 use Rattle.std.specs.Prelude.{ℕ, zero, suc, ◌*◌, Bool, true, false, not, ◌&&◌, ◌||◌, List, [], leb, ltb, eqb, get_or, Float}
 use Rattle.std.specs.Float.{nan}
 use Rattle.std.specs.Float.Ieee.Positive.{positive}
+use Rattle.refusals.specs.declared.Refusal.TheVariants.{BadSize, BadSpacing, BadStudy}
+use Rattle.refusals.specs.Refusals.{number}
 use Rattle.root.specs.declared.Spacings.{Spacings}
 use Rattle.dispersion.specs.declared.DispersiveMaterial.{DispersiveMaterial}
 use Rattle.dispersion.specs.Ade.{pole_steps}
@@ -14,13 +16,13 @@ use Rattle.grid.specs.Vacuum.{eps_of}
 use Rattle.grid.specs.Limits.{max_side, max_cells, max_pole_slots, max_materials, max_constants}
 
 abbrev pub bad_size : ℕ
-bad_size = 1
+bad_size = number BadSize
 
 abbrev pub bad_spacing : ℕ
-bad_spacing = 2
+bad_spacing = number BadSpacing
 
 abbrev pub bad_study : ℕ
-bad_study = 3
+bad_study = number BadStudy
 
 -- ---- 1: a size outside the ranges
 unfoldable pub side_fits : ℕ → Bool

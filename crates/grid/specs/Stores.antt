@@ -1,6 +1,8 @@
 -- The nine lent stores, how long each has to be (document 01, "Stores and study record"), refusal 4 BadStore, and what a call comes to. Definitions only.
 use Rattle.std.specs.Prelude.{ℕ, zero, suc, ◌+◌, ◌*◌, Bool, ◌&&◌, List, eqb, length, get_or, replicate, Float}
 use Rattle.std.specs.Float.{nan}
+use Rattle.refusals.specs.declared.Refusal.TheVariants.{BadStore}
+use Rattle.refusals.specs.Refusals.{number}
 use Rattle.root.specs.Rounded.{zero_f}
 use Rattle.grid.specs.declared.Record.{Record}
 use Rattle.grid.specs.declared.stores.Lengths.{Lengths}
@@ -79,7 +81,7 @@ same_lengths a b =
     && eqb a.ids b.ids
 
 abbrev pub bad_store : ℕ
-bad_store = 4
+bad_store = number BadStore
 
 -- number c of the cell with the index m, in a store of n cells
 abbrev pub number_at : List Float → (n c m : ℕ) → Float

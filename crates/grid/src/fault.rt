@@ -1,10 +1,12 @@
 // Refusals 1 to 3: what is wrong with a study record, the first fault first.
 ghost use Rattle.std.specs.Prelude.{◌&&◌, ◌≡◌, ◌≤◌, leb};
 ghost use Rattle.std.specs.Float.Ieee.Positive.{positive};
-ghost use Rattle.grid.specs.Fault.{side_fits, sides_fit, size_fits, spacings_fit, is_absent, corners_fit, region_fits, layer_fits, material_steps, poles_fit, counts_fit, study_fits, first, fault_of};
+ghost use Rattle.refusals.specs.Refusals.{code};
+ghost use Rattle.grid.specs.Fault.{side_fits, sides_fit, size_fits, spacings_fit, is_absent, corners_fit, region_fits, layer_fits, material_steps, poles_fit, counts_fit, study_fits, fault_of};
 
 use crate::{Record, Region, RegionKind};
 use dispersion::DispersiveMaterial;
+use refusals::{Refusal, require};
 use root::{Spacings, vacuum};
 
 pub const MAX_SIDE: usize = 512;
@@ -16,12 +18,6 @@ pub const MAX_POLE_SLOTS: usize = 4;
 pub const MAX_MATERIALS: usize = 16;
 
 pub const MAX_CONSTANTS: usize = 1;
-
-pub const BAD_SIZE: u32 = 1;
-
-pub const BAD_SPACING: u32 = 2;
-
-pub const BAD_STUDY: u32 = 3;
 
 fn side_fits(n: usize) -> bool
     ensures { result ≡ side_fits n }
@@ -38,11 +34,7 @@ fn sides_fit(nx: usize, ny: usize, nz: usize) -> bool
 fn size_fits(nx: usize, ny: usize, nz: usize) -> bool
     ensures { result ≡ size_fits nx ny nz }
 {
-    if sides_fit(nx, ny, nz) {
-        nx * ny * nz <= MAX_CELLS
-    } else {
-        false
-    }
+    sides_fit(nx, ny, nz) && nx * ny * nz <= MAX_CELLS
 }
 
 // Finite and above 0.
@@ -61,12 +53,7 @@ fn spacings_fit(s: Spacings) -> bool
 pub fn is_absent(k: RegionKind) -> bool
     ensures { result ≡ is_absent k }
 {
-    match k {
-        RegionKind::Absent => true,
-        RegionKind::SlabZ => false,
-        RegionKind::InjectorZ => false,
-        RegionKind::BoxRegion => false,
-    }
+    matches!(k, RegionKind::Absent)
 }
 
 pub fn corners_fit(r: Region, nx: usize, ny: usize, nz: usize) -> bool
@@ -78,8 +65,7 @@ pub fn corners_fit(r: Region, nx: usize, ny: usize, nz: usize) -> bool
 fn region_fits(r: Region, nx: usize, ny: usize, nz: usize) -> bool
     ensures { result ≡ region_fits r nx ny nz }
 {
-    let kind = r.kind;
-    is_absent(kind) | corners_fit(r, nx, ny, nz)
+    is_absent(r.kind) | corners_fit(r, nx, ny, nz)
 }
 
 fn layer_fits(active: [bool; 3], layer_on: bool) -> bool
@@ -104,15 +90,10 @@ fn material_steps(m: DispersiveMaterial, eps0: f64, dt: f64) -> bool
     requires { m.pole_count ≤ 4 }
     ensures { result ≡ material_steps eps0 dt m }
 {
-    let n = m.pole_count;
-    let mut slot = 0;
-    while slot < n {
-        let held = m.poles[slot];
-        let pole = held.pole;
-        if pole.ade_coeffs(eps0, dt).refusal != 0 {
+    for slot in 0..m.pole_count {
+        if m.poles[slot].ade_coeffs(eps0, dt).is_err() {
             return false;
         }
-        slot += 1;
     }
     true
 }
@@ -122,26 +103,18 @@ pub fn material_fits(m: DispersiveMaterial, slots: usize, eps0: f64, dt: f64) ->
     requires { slots ≤ 4 }
     ensures { result ≡ (leb m.pole_count slots && material_steps eps0 dt m) }
 {
-    if slots < m.pole_count {
-        return false;
-    }
-    material_steps(m, eps0, dt)
+    m.pole_count <= slots && material_steps(m, eps0, dt)
 }
 
 fn poles_fit(r: Record) -> bool
     requires { (r.material_count ≤ 16) × (r.pole_slots ≤ 4) }
     ensures { result ≡ poles_fit r }
 {
-    let n = r.material_count;
-    let slots = r.pole_slots;
-    let dt = r.spacings.dt;
     let eps0 = vacuum::chosen(r.constants).eps0;
-    let mut i = 0;
-    while i < n {
-        if !material_fits(r.materials[i], slots, eps0, dt) {
+    for i in 0..r.material_count {
+        if !material_fits(r.materials[i], r.pole_slots, eps0, r.spacings.dt) {
             return false;
         }
-        i += 1;
     }
     true
 }
@@ -149,27 +122,16 @@ fn poles_fit(r: Record) -> bool
 fn study_fits(r: Record) -> bool
     ensures { result ≡ study_fits r }
 {
-    if !counts_fit(r) {
-        return false;
-    }
-    let active = r.active;
-    let region = r.region;
-    poles_fit(r) & layer_fits(active, r.layer_on) & region_fits(region, r.nx, r.ny, r.nz)
+    counts_fit(r)
+        && poles_fit(r) & layer_fits(r.active, r.layer_on) & region_fits(r.region, r.nx, r.ny, r.nz)
 }
 
-// The fault's number where a test failed, and else what comes later.
-pub fn first_fault(fits: bool, n: u32, later: u32) -> u32
-    ensures { result ≡ first fits n later }
+// What is wrong with the record itself.
+#[tactic(auto, unfolding(crate::specs::Fault::fault_of))]
+pub fn fault_of(r: Record) -> Result<(), Refusal>
+    ensures { code result ≡ fault_of r }
 {
-    if fits { later } else { n }
-}
-
-pub fn fault_of(r: Record) -> u32
-    ensures { result ≡ fault_of r }
-{
-    let s = r.spacings;
-    let size = size_fits(r.nx, r.ny, r.nz);
-    let spacing = spacings_fit(s);
-    let later = first_fault(study_fits(r), BAD_STUDY, 0);
-    first_fault(size, BAD_SIZE, first_fault(spacing, BAD_SPACING, later))
+    require(size_fits(r.nx, r.ny, r.nz), Refusal::BadSize)?;
+    require(spacings_fit(r.spacings), Refusal::BadSpacing)?;
+    require(study_fits(r), Refusal::BadStudy)
 }

@@ -53,10 +53,3 @@ pub struct Record {
     pub clock: Clock,
     pub constants: usize,
 }
-
-// The refusal's number, 0 where the call was accepted, and the record after it.
-#[derive(Clone, Copy)]
-pub struct Answer {
-    pub refusal: u32,
-    pub study: Record,
-}

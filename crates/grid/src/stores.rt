@@ -1,17 +1,16 @@
 // How long each lent store has to be, refusal 4, and stores filled with one number.
-ghost use Rattle.std.specs.Prelude.{◌≡◌, ◌+◌, ◌≤◌, length, replicate};
+ghost use Rattle.std.specs.Prelude.{◌≡◌, ◌+◌, ◌≤◌, length, replicate, IfOk};
 ghost use Rattle.codec.specs.Lists.{put};
-ghost use Rattle.root.specs.Rounded.{zero_f};
 ghost use Rattle.grid.specs.Inner.Sound.{Sound};
-ghost use Rattle.grid.specs.Stores.{store_lengths, same_lengths, or_else, lent_fault, fault_with};
-ghost use Rattle.grid.specs.Inner.Judging.{judged};
+ghost use Rattle.refusals.specs.Refusals.{code};
+ghost use Rattle.grid.specs.Fault.{fault_of};
+ghost use Rattle.grid.specs.Stores.{stores, store_lengths, lengths_of, fault_with};
 
 use crate::{Record, fault};
-
-pub const BAD_STORE: u32 = 4;
+use refusals::{Refusal, require};
 
 // The lengths of the nine stores, in document 01's order of them.
-#[derive(Clone, Copy)]
+#[derive(Clone, Copy, PartialEq, Eq)]
 pub struct Lengths {
     pub electric: usize,
     pub magnetic: usize,
@@ -44,104 +43,56 @@ pub fn store_lengths(r: Record) -> Lengths
     }
 }
 
-fn same_lengths(a: Lengths, b: Lengths) -> bool
-    ensures { result ≡ same_lengths a b }
+// The lengths of what is lent.
+pub fn lengths_of(
+    electric: &[f64],
+    magnetic: &[f64],
+    media: &[f64],
+    psi_e: &[f64],
+    psi_h: &[f64],
+    tables: &[f64],
+    poles: &[f64],
+    aux: &[f64],
+    ids: &[u32],
+) -> Lengths
+    ensures { result ≡ lengths_of (stores electric.now magnetic.now media.now psi_e.now psi_h.now tables.now poles.now aux.now ids.now) }
 {
-    (a.electric == b.electric)
-        & (a.magnetic == b.magnetic)
-        & (a.media == b.media)
-        & (a.psi_e == b.psi_e)
-        & (a.psi_h == b.psi_h)
-        & (a.tables == b.tables)
-        & (a.poles == b.poles)
-        & (a.aux == b.aux)
-        & (a.ids == b.ids)
-}
-
-// What a call asks of its record first: the record's own refusal and, where that is 0, how long each store has to be.
-#[derive(Clone, Copy)]
-pub struct Judged {
-    pub refusal: u32,
-    pub lengths: Lengths,
-}
-
-pub fn judge(r: Record) -> Judged
-    ensures { result ≡ judged r }
-{
-    let f = fault::fault_of(r);
-    if f != 0 {
-        let none = Lengths {
-            electric: 0,
-            magnetic: 0,
-            media: 0,
-            psi_e: 0,
-            psi_h: 0,
-            tables: 0,
-            poles: 0,
-            aux: 0,
-            ids: 0,
-        };
-        return Judged {
-            refusal: f,
-            lengths: none,
-        };
-    }
-    Judged {
-        refusal: 0,
-        lengths: store_lengths(r),
+    Lengths {
+        electric: electric.len(),
+        magnetic: magnetic.len(),
+        media: media.len(),
+        psi_e: psi_e.len(),
+        psi_h: psi_h.len(),
+        tables: tables.len(),
+        poles: poles.len(),
+        aux: aux.len(),
+        ids: ids.len(),
     }
 }
 
-// The earlier fault where there is one, and else the later.
-pub fn or_else(f: u32, later: u32) -> u32
-    ensures { result ≡ or_else f later }
+// How long each store has to be, of a record without fault.
+pub fn judge(r: Record) -> Result<Lengths, Refusal>
+    ensures fault { code result ≡ fault_of r }
+    ensures lengths { IfOk result (λ l. (l ≡ store_lengths r) × Sound r) }
 {
-    if f != 0 {
-        return f;
-    }
-    later
-}
-
-// The record's own refusal f, then 4 unless what is lent has the right lengths.
-pub fn lent_fault(f: u32, fits: bool) -> u32
-    ensures { result ≡ lent_fault f fits }
-{
-    or_else(f, fault::first_fault(fits, BAD_STORE, 0))
+    fault::fault_of(r)?;
+    Ok(store_lengths(r))
 }
 
 // Refusals 1 to 3 of the record, then 4 by the lengths of all nine stores.
-pub fn fault_with(r: Record, l: Lengths) -> u32
-    ensures { result ≡ fault_with r l }
+pub fn fault_with(r: Record, lent: Lengths) -> Result<(), Refusal>
+    ensures { code result ≡ fault_with r lent }
 {
-    let j = judge(r);
-    let expected = j.lengths;
-    lent_fault(j.refusal, same_lengths(l, expected))
+    let expected = judge(r)?;
+    require(lent == expected, Refusal::BadStore)
 }
 
 // v from at on, n times.
-pub fn fill(s: &mut [f64], at: usize, n: usize, v: f64)
+pub fn fill<T: Copy>(s: &mut [T], at: usize, n: usize, v: T)
     requires { at + n ≤ length s.old }
     ensures { s.new ≡ put s.old at (replicate n v) }
 {
-    let mut i = 0;
-    while i < n {
+    for i in 0..n {
         s[at + i] = v;
-        i += 1;
-    }
-}
-
-pub fn clear(s: &mut [f64])
-    ensures { s.new ≡ replicate (length s.old) zero_f }
-{
-    fill(s, 0, s.len(), 0.0);
-}
-
-pub fn clear_ids(s: &mut [u32])
-    ensures { s.new ≡ replicate (length s.old) 0 }
-{
-    let mut i = 0;
-    while i < s.len() {
-        s[i] = 0;
-        i += 1;
     }
 }

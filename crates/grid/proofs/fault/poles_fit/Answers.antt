@@ -1,13 +1,11 @@
+use Rattle.std.proofs.Common.{rules, ◌≡◌, sym, ◌∙◌}
 use Rattle.grid.specs.Fault.{material_at, all_below, material_fits, poles_fit}
-use mathlib.Core.Path.{◌≡◌, refl, sym, ap, ◌∙◌}
-use native.Mathlib.Omega.{arith}
 use Rattle.grid.proofs.Judging.{all_more, all_fails}
-use Rattle.std.proofs.Common.{rules}
 use Rattle.grid.proofs.fault.poles_fit.Goals as goal
 
 pub loop-i-init : goal.loop-i-init
 unfolding all_below
-loop-i-init c = (search rules, refl)
+loop-i-init c = search rules
 
 pub returns-then-not-material_fits : goal.returns-then-not-material_fits
 unfolding poles_fit material_fits
@@ -19,12 +17,8 @@ pub loop-i-preserved : goal.loop-i-preserved
 unfolding material_fits
 loop-i-preserved c =
     let fits : c.material_fits.result ≡ material_fits c.args.r (material_at c.args.r c.loop-i.i) = c.material_fits.ensures ∙ rw c.chosen-eps0.ensures in
-    let turn = c.loop-i in
-    (search rules, all_more _ turn.i turn.invariant.1 (sym fits ∙ c.if-not-material_fits.false))
+    all_more _ c.loop-i.i c.loop-i.invariant (sym fits ∙ c.if-not-material_fits.false)
 
 pub returns : goal.returns
 unfolding poles_fit
-returns c =
-    let r = c.args.r in
-    let e : r.material_count ≡ c.loop-i.i = omega arith in
-    sym (ap (all_below (λ k. material_fits r (material_at r k))) e ∙ c.loop-i.invariant.1)
+returns c = search rules

@@ -17,4 +17,4 @@ returns-then-sides_fit c = and_yes c.sides_fit.ensures c.if-sides_fit.true
 
 pub returns-else-sides_fit : goal.returns-else-sides_fit
 unfolding size_fits
-returns-else-sides_fit c = and_no _ c.sides_fit.ensures c.if-sides_fit.false
+returns-else-sides_fit c = c.if-sides_fit.false ∙ and_no _ c.sides_fit.ensures c.if-sides_fit.false

@@ -1,6 +1,16 @@
-use Rattle.grid.specs.Stores.{same_lengths}
-use Rattle.grid.proofs.Settled.{judged_fault}
+use Rattle.std.proofs.Common.{rules, ◌≡◌}
+use Rattle.refusals.specs.Refusals.{code}
+use Rattle.grid.specs.Fault.{fault_of}
+use Rattle.grid.specs.Stores.{fault_lent, same_lengths}
+use Rattle.grid.proofs.Settled.{own_fault, later_fault}
 use Rattle.grid.proofs.stores.fault_with.Goals as goal
 
+pub returns-in_err-expected : goal.returns-in_err-expected
+unfolding fault_lent
+returns-in_err-expected c =
+    let told : code c.from_residual.result ≡ fault_of c.args.r = search rules in
+    own_fault _ _ (search rules) told
+
 pub returns : goal.returns
-returns c = judged_fault c.args.r (same_lengths c.args.l) _ _ c.judge-j.ensures (cc)
+unfolding fault_lent same_lengths
+returns c = later_fault c.in_ok-expected.ensures.fault (let same = c.in_ok-expected.ensures.lengths.0 in search rules)

@@ -1,0 +1,32 @@
+-- A refusal's number is not 0, so that 0 says that there is none. Assumes nothing.
+use Rattle.std.proofs.Common.{ℕ, ◌≡◌, Result, Ok, Err, IsErr}
+use Prim.Native.Nat.{◌≤◌}
+use native.Mathlib.Omega.{arith}
+use Rattle.refusals.specs.declared.Refusal.{Refusal}
+use Rattle.refusals.specs.declared.Refusal.TheVariants.{BadSize, BadSpacing, BadStudy, BadStore, Full, TooManyPoles, NoSuchMaterial, StaleMaterial, BadRegion, BadOrder, SpentClock, NoRoom, Short, BadMark, BadRecord, Trailing, NoSuchPlane, BadPole}
+use Rattle.refusals.specs.Refusals.{number, code}
+
+pub numbered : (f : Refusal) → 1 ≤ number f
+numbered BadSize = omega arith
+numbered BadSpacing = omega arith
+numbered BadStudy = omega arith
+numbered BadStore = omega arith
+numbered Full = omega arith
+numbered TooManyPoles = omega arith
+numbered NoSuchMaterial = omega arith
+numbered StaleMaterial = omega arith
+numbered BadRegion = omega arith
+numbered BadOrder = omega arith
+numbered SpentClock = omega arith
+numbered NoRoom = omega arith
+numbered Short = omega arith
+numbered BadMark = omega arith
+numbered BadRecord = omega arith
+numbered Trailing = omega arith
+numbered NoSuchPlane = omega arith
+numbered BadPole = omega arith
+
+-- so that a refusal's code is not
+pub some : {A : Type 0} (x : Result A Refusal) → IsErr x → code x ≡ 0 → ⊥
+some (Ok x) h e = absurd (let z : ⊥ = cc in z)
+some (Err f) h e = let low = numbered f in omega (arith, low)

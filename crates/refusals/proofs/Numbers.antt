@@ -2,9 +2,10 @@
 use Rattle.std.proofs.Common.{ℕ, ◌≡◌, Result, Ok, Err, IsErr}
 use Prim.Native.Nat.{◌≤◌}
 use native.Mathlib.Omega.{arith}
+use mathlib.Core.Path.{refl}
 use Rattle.refusals.specs.declared.Refusal.{Refusal}
 use Rattle.refusals.specs.declared.Refusal.TheVariants.{BadSize, BadSpacing, BadStudy, BadStore, Full, TooManyPoles, NoSuchMaterial, StaleMaterial, BadRegion, BadOrder, SpentClock, NoRoom, Short, BadMark, BadRecord, Trailing, NoSuchPlane, BadPole}
-use Rattle.refusals.specs.Refusals.{number, code}
+use Rattle.refusals.specs.Refusals.{number, code, value_or}
 
 pub numbered : (f : Refusal) → 1 ≤ number f
 numbered BadSize = omega arith
@@ -30,3 +31,8 @@ numbered BadPole = omega arith
 pub some : {A : Type 0} (x : Result A Refusal) → IsErr x → code x ≡ 0 → ⊥
 some (Ok x) h e = absurd (let z : ⊥ = cc in z)
 some (Err f) h e = let low = numbered f in omega (arith, low)
+
+-- and its answer is what stands in for one
+pub stands_in : {A : Type 0} (x : Result A Refusal) → IsErr x → (d : A) → value_or d x ≡ d
+stands_in (Ok x) h d = absurd (let z : ⊥ = cc in z)
+stands_in (Err f) h d = refl

@@ -1,5 +1,5 @@
 -- A refusal's number is not 0, so that 0 says that there is none. Assumes nothing.
-use Rattle.std.proofs.Common.{ℕ, ◌≡◌, Result, Ok, Err, IsErr}
+use Rattle.std.proofs.Common.{ℕ, ◌≡◌, Result, Ok, Err, IsErr, IfOk, sym}
 use Prim.Native.Nat.{◌≤◌}
 use native.Mathlib.Omega.{arith}
 use mathlib.Core.Path.{refl}
@@ -36,3 +36,8 @@ some (Err f) h e = let low = numbered f in omega (arith, low)
 pub stands_in : {A : Type 0} (x : Result A Refusal) → IsErr x → (d : A) → value_or d x ≡ d
 stands_in (Ok x) h d = absurd (let z : ⊥ = cc in z)
 stands_in (Err f) h d = refl
+
+-- what holds where a fault is 0 holds where it is told and there is an answer
+pub if_ok : {A : Type 0} (x : Result A Refusal) (n : ℕ) {P : Type 0} → code x ≡ n → (n ≡ 0 → P) → IfOk x (λ _. P)
+if_ok (Ok x) n e h = h (sym e)
+if_ok (Err f) n e h = tt

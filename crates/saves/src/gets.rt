@@ -55,10 +55,10 @@ fn get_cells(
     let q = at + (18 + 4 * ids.len() + 8 * media.len());
     let s = at + (24 + 4 * ids.len() + 8 * media.len() + 8 * e.len());
     let end = at + (24 + 4 * ids.len() + 8 * media.len() + 8 * e.len() + 8 * h.len());
-    stores::get_u32s(b, at + 6, ids);
-    stores::get_f64s(b, p, media);
-    stores::get_f64s(b, q, e);
-    stores::get_f64s(b, s, h);
+    stores::get_all(b, at + 6, ids);
+    stores::get_all(b, p, media);
+    stores::get_all(b, q, e);
+    stores::get_all(b, s, h);
     end
 }
 
@@ -70,9 +70,9 @@ fn get_layer(b: &[u8], at: usize, psi_e: &mut [f64], psi_h: &mut [f64], tables: 
     let p = at + (12 + 8 * psi_e.len());
     let q = at + (18 + 8 * psi_e.len() + 8 * psi_h.len());
     let end = at + (18 + 8 * psi_e.len() + 8 * psi_h.len() + 8 * tables.len());
-    stores::get_f64s(b, at + 6, psi_e);
-    stores::get_f64s(b, p, psi_h);
-    stores::get_f64s(b, q, tables);
+    stores::get_all(b, at + 6, psi_e);
+    stores::get_all(b, p, psi_h);
+    stores::get_all(b, q, tables);
     end
 }
 
@@ -82,8 +82,8 @@ fn get_ends(b: &[u8], at: usize, poles: &mut [f64], aux: &mut [f64])
     ensures { (poles.new ≡ floats_of (length poles.old) (drop (at + 6) b.now)) × (aux.new ≡ floats_of (length aux.old) (drop (at + (12 + 8 * length poles.old)) b.now)) }
 {
     let p = at + (12 + 8 * poles.len());
-    stores::get_f64s(b, at + 6, poles);
-    stores::get_f64s(b, p, aux);
+    stores::get_all(b, at + 6, poles);
+    stores::get_all(b, p, aux);
 }
 
 // The nine stores, from the records that begin at `at`.

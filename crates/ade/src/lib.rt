@@ -61,10 +61,8 @@ fn span(
     let j0 = j * n;
     let d0 = d * n;
     let e0 = c * n;
-    let mut m = a;
-    while m < z {
+    for m in a..z {
         turn(poles, a1, a2, a3, e[e0 + m], i0 + m, j0 + m, d0 + m);
-        m += 1;
     }
 }
 
@@ -107,8 +105,7 @@ fn run(
     requires base_bound { (base ≤ 60) × (count ≤ slots) × (a ≤ z) × (z ≤ n) }
     ensures { Changed n a z (by_run co.now e.now n slots base count) poles.old poles.new }
 {
-    let mut s = 0;
-    while s < count {
+    for s in 0..count {
         let k = 3 * (base + s);
         components(
             poles,
@@ -123,7 +120,6 @@ fn run(
             3 * slots + 3 * s,
             6 * slots,
         );
-        s += 1;
     }
 }
 
@@ -133,14 +129,12 @@ fn run_end(ids: &[u32], n: usize, a: usize) -> usize
     ensures { RunEnd ids.now n a result }
 {
     let id = ids[a];
-    let mut z = a + 1;
-    while z < n {
+    for z in a + 1..n {
         if ids[z] != id {
             return z;
         }
-        z += 1;
     }
-    z
+    n
 }
 
 fn advance_cells(
@@ -189,11 +183,8 @@ fn list_poles(co: &mut [f64; 192], eps0: f64, dt: f64, material: DispersiveMater
     requires { (material.pole_count ≤ 4) × (i < 16) × (length co.old ≡ 192) }
     ensures { Listed eps0 dt material i material.pole_count co.old co.new }
 {
-    let count = material.pole_count;
-    let mut slot = 0;
-    while slot < count {
+    for slot in 0..material.pole_count {
         place(co, 4 * i + slot, coeffs_of(eps0, dt, material, slot));
-        slot += 1;
     }
 }
 
@@ -202,13 +193,9 @@ fn tabulate(co: &mut [f64; 192], eps0: f64, r: Record)
     requires by_index { (i : ℕ) → i < r.material_count → pole_count r i ≤ 4 }
     ensures { Table eps0 r r.material_count co.new }
 {
-    let n = r.material_count;
     let dt = r.spacings.dt;
-    let mut i = 0;
-    while i < n {
-        let material = r.materials[i];
-        list_poles(co, eps0, dt, material, i);
-        i += 1;
+    for i in 0..r.material_count {
+        list_poles(co, eps0, dt, r.materials[i], i);
     }
 }
 
@@ -216,11 +203,8 @@ fn count_poles(counts: &mut [usize; 16], r: Record)
     requires { (r.material_count ≤ 16) × (length counts.old ≡ 16) }
     ensures { Counts r r.material_count counts.new }
 {
-    let n = r.material_count;
-    let mut i = 0;
-    while i < n {
+    for i in 0..r.material_count {
         counts[i] = r.materials[i].pole_count;
-        i += 1;
     }
 }
 

@@ -1,20 +1,16 @@
-use mathlib.Core.Path.{◌≡◌, ◌∙◌, refl, subst}
-use Prim.Native.Nat.{ℕ}
-use native.Mathlib.Omega.{arith}
-use lib.ListN.{length-set}
+use Rattle.std.proofs.Common.{◌≡◌, ℕ, refl, subst, arith}
 use Rattle.ade.proofs.Tables.{counts_more}
 use Rattle.ade.specs.Inner.Runs.{Counts}
-use Rattle.std.proofs.Common.{rules}
 use Rattle.ade.proofs.count_poles.Goals as goal
 
 pub loop-i-init : goal.loop-i-init
-loop-i-init c = (search rules, search rules, record { each = λ i h. absurd (omega arith) })
+loop-i-init c = record { each = λ i h. absurd (omega arith) }
 
 pub loop-i-preserved : goal.loop-i-preserved
-loop-i-preserved c = (search rules, length-set c.loop-i.counts _ _ ∙ c.loop-i.invariant.1, counts_more c.args.r _ c.loop-i.counts _ (omega arith) c.loop-i.invariant.2 refl)
+loop-i-preserved c = counts_more c.args.r _ c.loop-i.counts _ (omega arith) c.loop-i.invariant refl
 
 pub returns : goal.returns
 returns c =
     let args = c.args in
     let e : c.loop-i.i ≡ args.r.material_count = omega arith in
-    subst (λ (k : ℕ). Counts args.r k c.loop-i.counts) e c.loop-i.invariant.2
+    subst (λ (k : ℕ). Counts args.r k c.loop-i.counts) e c.loop-i.invariant

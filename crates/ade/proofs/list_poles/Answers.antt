@@ -1,21 +1,18 @@
-use mathlib.Core.Path.{◌≡◌, ◌∙◌, subst}
-use Prim.Native.Nat.{ℕ}
-use native.Mathlib.Omega.{arith}
+use Rattle.std.proofs.Common.{◌≡◌, ℕ, subst, arith}
 use Rattle.ade.proofs.Tables.{listed_more, listed_none}
 use Rattle.ade.specs.Inner.Runs.{Listed}
-use Rattle.std.proofs.Common.{rules}
 use Rattle.ade.proofs.list_poles.Goals as goal
 
 pub loop-slot-init : goal.loop-slot-init
-loop-slot-init c = (search rules, search rules, listed_none _ _ _ _ _)
+loop-slot-init c = listed_none _ _ _ _ _
 
 pub loop-slot-preserved : goal.loop-slot-preserved
 loop-slot-preserved c =
     let turn = c.loop-slot in
-    (search rules, c.place.ensures.same ∙ turn.invariant.1, listed_more _ _ _ _ _ _ _ turn.co _ turn.invariant.2 c.place.ensures c.coeffs_of.ensures)
+    listed_more _ _ _ _ _ _ _ turn.co _ turn.invariant c.place.ensures c.coeffs_of.ensures
 
 pub returns : goal.returns
 returns c =
     let args = c.args in
     let q : c.loop-slot.slot ≡ args.material.pole_count = omega arith in
-    subst (λ (k : ℕ). Listed args.eps0 args.dt args.material args.i k args.co.now c.loop-slot.co) q c.loop-slot.invariant.2
+    subst (λ (k : ℕ). Listed args.eps0 args.dt args.material args.i k args.co.now c.loop-slot.co) q c.loop-slot.invariant

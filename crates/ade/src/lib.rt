@@ -161,7 +161,7 @@ fn advance_cells(
 }
 
 fn place(co: &mut [f64; 192], b: usize, k: AdeCoeffs)
-    requires { (b < 64) × (length co.old ≡ 192) }
+    requires { b < 64 }
     ensures { CoeffPut k b co.old co.new }
 {
     co[3 * b] = k.a1;
@@ -180,7 +180,7 @@ fn coeffs_of(eps0: f64, dt: f64, material: DispersiveMaterial, slot: usize) -> A
 
 // The coefficients of the poles of material i.
 fn list_poles(co: &mut [f64; 192], eps0: f64, dt: f64, material: DispersiveMaterial, i: usize)
-    requires { (material.pole_count ≤ 4) × (i < 16) × (length co.old ≡ 192) }
+    requires { (material.pole_count ≤ 4) × (i < 16) }
     ensures { Listed eps0 dt material i material.pole_count co.old co.new }
 {
     for slot in 0..material.pole_count {
@@ -189,7 +189,7 @@ fn list_poles(co: &mut [f64; 192], eps0: f64, dt: f64, material: DispersiveMater
 }
 
 fn tabulate(co: &mut [f64; 192], eps0: f64, r: Record)
-    requires material_count_bound { (r.material_count ≤ 16) × (length co.old ≡ 192) }
+    requires material_count_bound { r.material_count ≤ 16 }
     requires by_index { (i : ℕ) → i < r.material_count → pole_count r i ≤ 4 }
     ensures { Table eps0 r r.material_count co.new }
 {
@@ -200,7 +200,7 @@ fn tabulate(co: &mut [f64; 192], eps0: f64, r: Record)
 }
 
 fn count_poles(counts: &mut [usize; 16], r: Record)
-    requires { (r.material_count ≤ 16) × (length counts.old ≡ 16) }
+    requires { r.material_count ≤ 16 }
     ensures { Counts r r.material_count counts.new }
 {
     for i in 0..r.material_count {

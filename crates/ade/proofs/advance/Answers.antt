@@ -1,4 +1,4 @@
-use mathlib.Core.Path.{refl, ◌∙◌, ap}
+use mathlib.Core.Path.{◌∙◌, ap}
 use native.Mathlib.Omega.{arith}
 use lib.ListN.{length}
 use Rattle.ade.proofs.Advancing.{room, advanced, few_poles, cleared_length, known_counts}
@@ -7,7 +7,7 @@ use Rattle.ade.proofs.advance.Goals as goal
 pub tabulate-requires : goal.tabulate-requires
 tabulate-requires c =
     let args = c.args in
-    record { material_count_bound = (omega arith, refl); by_index = few_poles args.eps0 args.r args.ids.now args.e.now args.poles.now c.requires }
+    record { material_count_bound = omega arith; by_index = few_poles args.eps0 args.r args.ids.now args.e.now args.poles.now c.requires }
 
 pub advance_cells-requires : goal.advance_cells-requires
 advance_cells-requires c =

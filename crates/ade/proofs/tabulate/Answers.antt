@@ -7,7 +7,7 @@ pub loop-i-init : goal.loop-i-init
 loop-i-init c = record { each = λ i slot h k. absurd (omega arith) }
 
 pub list_poles-requires : goal.list_poles-requires
-list_poles-requires c = (c.requires.by_index c.loop-i.i (omega arith), omega arith, omega arith)
+list_poles-requires c = (c.requires.by_index c.loop-i.i (omega arith), omega arith)
 
 pub loop-i-preserved : goal.loop-i-preserved
 loop-i-preserved c =

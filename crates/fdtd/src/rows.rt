@@ -104,15 +104,13 @@ pub fn pairs(
     requires n_in_bounds { (b0 + n ≤ length f.now) × (b1 + n ≤ length f.now) × (c0 + n ≤ length f.now) × (c1 + n ≤ length f.now) }
     ensures { Trio (λ i. slope db (get_or f.now (b0 + (i - a)) nan) (get_or f.now (b1 + (i - a)) nan)) (λ i. slope dc (get_or f.now (c0 + (i - a)) nan) (get_or f.now (c1 + (i - a)) nan)) scr.old a (a + n) scr.new }
 {
-    let mut i = 0usize;
-    while i < n {
+    for i in 0..n {
         put_pair(
             scr,
             a + i,
             slope_of(db, at(f, b0, i), at(f, b1, i)),
             slope_of(dc, at(f, c0, i), at(f, c1, i)),
         );
-        i += 1usize;
     }
 }
 
@@ -123,11 +121,9 @@ fn quiet(scr: &mut [f64], tab: &[f64], o: usize, a: usize, z: usize, second: boo
     requires z_in_bounds { s.tab + s.len + s.len + z ≤ length tab.now }
     ensures { Span (λ i. joins second (get_or scr.old (1024 + i) nan) zero_f ((one_f ⊖ (k_of s tab.now i).kinv) ⊗ get_or scr.old (o + i) nan)) scr.old 1024 a z scr.new }
 {
-    let mut i = a;
-    while i < z {
+    for i in a..z {
         let kd = stretch(kinv_at(tab, s, i), at(scr, o, i));
         scr[1024 + i] = join(second, at(scr, 1024, i), 0.0, kd);
-        i += 1usize;
     }
 }
 
@@ -150,14 +146,12 @@ fn live(
     ensures span_2 { Span (λ i. mem_next (k_of s tab.now i) (get_or mem.old (s.mem + i) nan) (get_or scr.old (o + i) nan)) mem.old s.mem a z mem.new }
 {
     let p = s.mem;
-    let mut i = a;
-    while i < z {
+    for i in a..z {
         let k = coef_at(tab, s, i);
         let d = at(scr, o, i);
         let moved = memory::advance(k.b, k.c, at(mem, p, i), d);
         mem[p + i] = moved.memory;
         scr[1024 + i] = join(second, at(scr, 1024, i), moved.answer, stretch(k.kinv, d));
-        i += 1usize;
     }
 }
 

@@ -5,7 +5,7 @@ ghost use Rattle.root.specs.Rounded.{zero_f};
 ghost use Rattle.grid.specs.Inner.Sound.{Sound};
 ghost use Rattle.grid.specs.Stores.{cells};
 ghost use Rattle.fdtd.specs.Axes.{axis_x, axis_y, axis_z, next_of, has_next};
-ghost use Rattle.fdtd.specs.Inner.Turns.{turn_for, round, side_across, side_along, row_at, AtSpot, Zeros, Lull};
+ghost use Rattle.fdtd.specs.Inner.Turns.{turn_for, round, side_across, side_along, row_at, AtSpot, FirstPlace, Lull};
 
 use crate::rows::Side;
 use crate::{Axis, Coef, rows};
@@ -245,31 +245,13 @@ pub fn find_spot(g: Turn, s: usize, t: usize, bs: usize, bt: usize) -> Spot
     }
 }
 
-// The first place from a on, below z, where a table that begins at t has 0, or z.
-fn calm_from(tab: &[f64], t: usize, a: usize, z: usize) -> usize
+// The first place from a on, below z, where the number of a table that begins at t is 0, or where it is not; z where there is none.
+fn first_place(tab: &[f64], t: usize, a: usize, z: usize, zero: bool) -> usize
     requires { (t + z ≤ length tab.now) × (a ≤ z) }
-    ensures { (a ≤ result) × (result ≤ z) }
+    ensures { FirstPlace tab.now t a z zero result }
 {
-    let mut i = a;
-    while i < z {
-        if rows::at(tab, t, i) == 0.0 {
-            return i;
-        }
-        i += 1usize;
-    }
-    z
-}
-
-// How far from a on, up to z, it has nothing else.
-fn calm_to(tab: &[f64], t: usize, a: usize, z: usize) -> usize
-    requires { (t + z ≤ length tab.now) × (a ≤ z) }
-    ensures { Zeros tab.now t a z result }
-{
-    let mut i = a;
-    while i < z {
-        if rows::at(tab, t, i) == 0.0 {
-            i += 1usize;
-        } else {
+    for i in a..z {
+        if (rows::at(tab, t, i) == 0.0) == zero {
             return i;
         }
     }
@@ -281,8 +263,8 @@ pub fn find_lull(tab: &[f64], w: Axis, a: usize, z: usize) -> Run
     requires { (w.tab + w.n + w.n + w.n ≤ length tab.now) × (a ≤ z) × (z ≤ w.n) }
     ensures { Lull w tab.now a z result }
 {
-    let lo = calm_from(tab, w.tab + w.n + w.n, a, z);
-    let hi = calm_to(tab, w.tab + w.n + w.n, lo, z);
+    let lo = first_place(tab, w.tab + w.n + w.n, a, z, true);
+    let hi = first_place(tab, w.tab + w.n + w.n, lo, z, false);
     Run {
         start: a,
         end: z,

@@ -1,5 +1,5 @@
 -- The grid as rows along one axis (the structs of turns.rt): where a row stands, how its sides are handed over, what its stores need. Definitions only.
-use Rattle.std.specs.Prelude.{ℕ, ◌+◌, ◌*◌, ◌≤◌, ◌<◌, ◌≡◌, ◌⊎◌, true, false, cond, List, eqb, length, get_or, Float}
+use Rattle.std.specs.Prelude.{ℕ, ◌+◌, ◌*◌, ◌≤◌, ◌<◌, ◌≡◌, ◌⊎◌, Bool, true, false, not, cond, List, eqb, length, get_or, Float}
 use Rattle.std.specs.Float.{nan}
 use Rattle.std.specs.Float.Ieee.{eq}
 use Rattle.root.specs.Rounded.{zero_f}
@@ -90,11 +90,11 @@ side_along w run own mem =
       mem = mem;
     }
 
--- from a up to r, which is at most z, the numbers from t on are 0
-pub record Zeros (tab : List Float) (t a z r : ℕ) : Type 0 where
+-- from a up to r, which is at most z, none of the numbers from t on is 0; or, where zero is false, all are
+pub record FirstPlace (tab : List Float) (t a z : ℕ) (zero : Bool) (r : ℕ) : Type 0 where
   pub from : a ≤ r
   pub upto : r ≤ z
-  pub all : (i : ℕ) → a ≤ i → i < r → eq (get_or tab (t + i) nan) zero_f ≡ true
+  pub all : (i : ℕ) → a ≤ i → i < r → eq (get_or tab (t + i) nan) zero_f ≡ not zero
 
 -- the cells of w from a up to z, and a run among them where the layer is quiet
 pub record Lull (w : Axis) (tab : List Float) (a z : ℕ) (run : Run) : Type 0 where

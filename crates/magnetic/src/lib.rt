@@ -173,14 +173,10 @@ fn sweep(
     requires scr_len { (length scr.old ≡ 2048) × (g.count + g.count ≤ length media.now) }
     ensures { Swept mu0 g e.now media.now tab.now h.old mem.old (g.t.n * g.s.n) h.new mem.new }
 {
-    let mut t = 0usize;
-    while t < g.t.n {
-        let mut s = 0usize;
-        while s < g.s.n {
+    for t in 0..g.t.n {
+        for s in 0..g.s.n {
             line(h, mem, scr, e, media, tab, mu0, g, run, s, t);
-            s += 1usize;
         }
-        t += 1usize;
     }
 }
 

@@ -16,10 +16,8 @@ pub fn factors(scr: &mut [f64], media: &[f64], m: usize, n: usize, dt: f64, mu0:
     requires n_in_bounds_2 { m + n ≤ length media.now }
     ensures { Span (λ i. factor dt mu0 (get_or media.now (m + i) nan)) scr.old 1536 0 n scr.new }
 {
-    let mut i = 0usize;
-    while i < n {
+    for i in 0..n {
         scr[1536 + i] = update::factor_of(dt, mu0, rows::at(media, m, i));
-        i += 1usize;
     }
 }
 
@@ -69,10 +67,8 @@ fn fields(h: &mut [f64], scr: &[f64], q: usize, m: usize)
     requires m_in_bounds_2 { 1536 + m ≤ length scr.now }
     ensures { Span (λ i. get_or h.old (q + i) nan ⊖ get_or scr.now (1536 + i) nan ⊗ get_or scr.now (1024 + i) nan) h.old q 0 m h.new }
 {
-    let mut i = 0usize;
-    while i < m {
+    for i in 0..m {
         h[q + i] = update::magnetic_value(h[q + i], rows::at(scr, 1536, i), rows::at(scr, 1024, i));
-        i += 1usize;
     }
 }
 

@@ -93,10 +93,8 @@ fn cells_of_row(
     let gos = turns::has_next(g.s, s);
     let got = turns::has_next(g.t, t);
     let v = single::find_shared(tab, g, s, t, bs, bt, gos, got);
-    let mut i = 0usize;
-    while i < g.r.n {
+    for i in 0..g.r.n {
         cell(h, mem, e, media, tab, mu0, g, v, s, t, i);
-        i += 1usize;
     }
 }
 
@@ -115,13 +113,9 @@ pub fn sweep_cells(
     requires count_in_bounds { g.count + g.count ≤ length media.now }
     ensures { Swept mu0 g e.now media.now tab.now h.old mem.old (g.t.n * g.s.n) h.new mem.new }
 {
-    let mut t = 0usize;
-    while t < g.t.n {
-        let mut s = 0usize;
-        while s < g.s.n {
+    for t in 0..g.t.n {
+        for s in 0..g.s.n {
             cells_of_row(h, mem, e, media, tab, mu0, g, s, t);
-            s += 1usize;
         }
-        t += 1usize;
     }
 }

@@ -6,7 +6,7 @@ use Rattle.magnetic.proofs.row.fields.Goals as goal
 
 pub loop-i-preserved : goal.loop-i-preserved
 loop-i-preserved c =
-    let l = c.loop-i in (omega arith, span_step _ _ _ _ _ _ _ l.invariant.1 (omega arith) (omega arith) (c.magnetic_value.ensures ∙ rw (c.at.ensures, c.at-in-loop-i.ensures, l.invariant.1.over _ (le_refl _))))
+    let l = c.loop-i in span_step _ _ _ _ _ _ _ l.invariant (omega arith) (omega arith) (c.magnetic_value.ensures ∙ rw (c.at.ensures, c.at-in-loop-i.ensures, l.invariant.over _ (le_refl _)))
 
 pub returns : goal.returns
-returns c = span_end _ _ _ _ c.loop-i.invariant.1 (omega arith)
+returns c = span_end _ _ _ _ c.loop-i.invariant (omega arith)

@@ -1,7 +1,6 @@
 use Prim.Native.Nat.{◌+◌}
 use native.Mathlib.Omega.{arith}
 use Rattle.ade.proofs.Columns.{three_done}
-use Rattle.ade.specs.Inner.Runs.{coeffs}
 use Rattle.ade.proofs.components.Goals as goal
 
 pub span-requires : goal.span-requires
@@ -34,4 +33,4 @@ span-requires-3 c =
 pub returns : goal.returns
 returns c =
     let args = c.args in
-    three_done (coeffs args.a1 args.a2 args.a3) args.e.now args.n args.i args.j args.d args.a args.z args.poles.now _ _ _ c.span.ensures c.span-2.ensures c.span-3.ensures
+    three_done args.k args.e.now args.w.n args.i args.j args.d args.w.a args.w.z args.poles.now _ _ _ c.span.ensures c.span-2.ensures c.span-3.ensures

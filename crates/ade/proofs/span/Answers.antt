@@ -1,6 +1,6 @@
 use Rattle.std.proofs.Common.{◌≡◌, ℕ, subst, arith}
 use Rattle.ade.proofs.Columns.{changed_none, span_more}
-use Rattle.ade.specs.Inner.Runs.{Changed, by_span, coeffs}
+use Rattle.ade.specs.Inner.Runs.{Changed, by_span}
 use Rattle.ade.proofs.span.Goals as goal
 
 pub loop-m-init : goal.loop-m-init
@@ -11,13 +11,14 @@ turn-requires c = let s = c.loop-m.invariant.same in (omega arith, omega arith, 
 
 pub loop-m-preserved : goal.loop-m-preserved
 loop-m-preserved c =
-    let turn = c.loop-m in
-    let pre = c.requires in
-    let args = c.args in
-    span_more (coeffs args.a1 args.a2 args.a3) args.e.now args.n args.c args.i args.j args.d args.a turn.m args.poles.now turn.poles _ turn.invariant (omega arith) (omega arith) pre.n_in_bounds.0 pre.n_in_bounds.1 pre.n_in_bounds.2 c.turn.ensures
+    let l = c.loop-m in
+    let pre = c.requires.n_in_bounds in
+    let a = c.args in
+    span_more a.k a.e.now a.w.n a.c a.i a.j a.d a.w.a l.m a.poles.now l.poles _ l.invariant (omega arith) (omega arith) pre.0 pre.1 pre.2 c.turn.ensures
 
 pub returns : goal.returns
 returns c =
-    let args = c.args in
-    let q : c.loop-m.m ≡ args.z = omega arith in
-    subst (λ (y : ℕ). Changed args.n args.a y (by_span (coeffs args.a1 args.a2 args.a3) args.e.now args.n args.c args.i args.j args.d) args.poles.now c.loop-m.poles) q c.loop-m.invariant
+    let a = c.args in
+    let l = c.loop-m in
+    let q : l.m ≡ a.w.z = omega arith in
+    subst (λ (y : ℕ). Changed a.w.n a.w.a y (by_span a.k a.e.now a.w.n a.c a.i a.j a.d) a.poles.now l.poles) q l.invariant

@@ -25,6 +25,8 @@ pub struct Cells {
     pub n: usize,
     pub a: usize,
     pub z: usize,
+    ghost order: { a ≤ z },
+    ghost within: { z ≤ n },
 }
 
 fn polarized_of(k: AdeCoeffs, p: f64, before: f64, e: f64) -> f64
@@ -65,7 +67,7 @@ fn span(
     d: usize,
 )
     requires n_in_bounds { (i * w.n + w.n ≤ length poles.old) × (j * w.n + w.n ≤ length poles.old) × (d * w.n + w.n ≤ length poles.old) }
-    requires n_in_bounds_2 { (c * w.n + w.n ≤ length e.now) × (w.a ≤ w.z) × (w.z ≤ w.n) }
+    requires n_in_bounds_2 { c * w.n + w.n ≤ length e.now }
     ensures { Changed w.n w.a w.z (by_span k e.now w.n c i j d) poles.old poles.new }
 {
     let i0 = i * w.n;
@@ -79,7 +81,7 @@ fn span(
 
 // The three components of a slot: p in the blocks from i on, p before in those from j on, dp in those from d on.
 fn components(poles: &mut [f64], e: &[f64], k: AdeCoeffs, w: Cells, i: usize, j: usize, d: usize)
-    requires i_le_d { (i ≤ d) × (j ≤ d) × (d ≤ 24) × (3 * w.n ≤ length e.now) × (w.a ≤ w.z) × (w.z ≤ w.n) }
+    requires i_le_d { (i ≤ d) × (j ≤ d) × (d ≤ 24) × (3 * w.n ≤ length e.now) }
     requires by_index { (b : ℕ) → b ≤ d + 2 → b * w.n + w.n ≤ length poles.old }
     ensures { Changed w.n w.a w.z (by_three k e.now w.n i j d) poles.old poles.new }
 {
@@ -91,7 +93,7 @@ fn components(poles: &mut [f64], e: &[f64], k: AdeCoeffs, w: Cells, i: usize, j:
 // The counted slots of a material.
 fn run(poles: &mut [f64], e: &[f64], k: &Stepped, slots: usize, w: Cells)
     requires poles_room { PolesRoom w.n slots e.now poles.old }
-    requires count_le_slots { (k.now.count ≤ slots) × (w.a ≤ w.z) × (w.z ≤ w.n) }
+    requires count_le_slots { k.now.count ≤ slots }
     ensures { Changed w.n w.a w.z (by_run k.now e.now w.n slots k.now.count) poles.old poles.new }
 {
     for s in 0..k.count {

@@ -12,7 +12,7 @@ run-requires c =
     let pre = c.requires in
     let h = pre.by_index l.a (omega arith) in
     let z = c.run_end-z.ensures in
-    record { poles_room = record { few = pre.poles_room.few; field = pre.poles_room.field; blocks = λ b k. omega (arith, pre.poles_room.blocks b k, l.invariant.1.same) }; count_le_slots = (h.1, omega (arith, z.further), z.within) }
+    record { poles_room = record { few = pre.poles_room.few; field = pre.poles_room.field; blocks = λ b k. omega (arith, pre.poles_room.blocks b k, l.invariant.1.same) }; count_le_slots = h.1 }
 
 pub loop-a-smaller : goal.loop-a-smaller
 loop-a-smaller c = omega (arith, c.run_end-z.ensures.further)

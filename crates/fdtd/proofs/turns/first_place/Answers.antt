@@ -1,4 +1,4 @@
-use Rattle.std.proofs.Common.{◌≡◌, ◌+◌, ◌≤◌, get_or, refl, sym, arith}
+use Rattle.std.proofs.Common.{◌≡◌, ◌+◌, ◌≤◌, get_or, refl, arith}
 use mathlib.Core.Bool.{Bool, true, false, not, beq}
 use borrow.Author.Count.{below_more}
 use lib.Ieee.{nan, eq}
@@ -18,10 +18,10 @@ pub loop-i-preserved : goal.loop-i-preserved
 loop-i-preserved c =
     let l = c.loop-i in
     let a = c.args in
-    λ k g h. below_more (λ k. a.a ≤ k → eq (get_or a.tab.now (a.t + k) nan) zero_f ≡ not a.zero) l.i (λ k h g. l.invariant k g h) (λ g. rw (sym c.at.ensures) (differs _ _ c.if-at-zero.false)) k h g
+    λ k g h. below_more (λ k. a.a ≤ k → eq (get_or a.tab.now (a.t + k) nan) zero_f ≡ not a.zero) l.i (λ k h g. l.invariant k g h) (λ g. differs _ _ c.if-tab-t.false) k h g
 
-pub returns-then-at-zero : goal.returns-then-at-zero
-returns-then-at-zero c = let l = c.loop-i in record { from = omega arith; upto = omega arith; all = l.invariant }
+pub returns-then-tab-t : goal.returns-then-tab-t
+returns-then-tab-t c = let l = c.loop-i in record { from = omega arith; upto = omega arith; all = l.invariant }
 
 pub returns : goal.returns
 returns c = let l = c.loop-i in record { from = omega arith; upto = omega arith; all = λ k g h. l.invariant k g (omega arith) }

@@ -15,7 +15,7 @@ line-requires c =
     let pre = c.requires in
     let l1 = c.loop-t in
     let l2 = c.loop-s in
-    record { fit = fit_as _ _ pre.fit (omega arith) (omega arith); laid = pre.laid; next_run = pre.next_run; s_lt_n = (c.loop-s-test.true, c.loop-t-test.true, omega arith, pre.scr_len.1) }
+    record { fit = fit_as _ _ pre.fit (omega arith) (omega arith); next_run = pre.next_run; s_lt_n = (c.loop-s-test.true, c.loop-t-test.true, omega arith, pre.f_len.1) }
 
 pub loop-s-preserved : goal.loop-s-preserved
 loop-s-preserved c =

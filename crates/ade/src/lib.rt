@@ -175,13 +175,12 @@ fn place(co: &mut [f64; 192], b: usize, k: AdeCoeffs)
     co[3 * b + 2] = k.a3;
 }
 
+#[tactic(auto, using(dispersion::proofs::Places::pole_within))]
 fn coeffs_of(eps0: f64, dt: f64, material: DispersiveMaterial, slot: usize) -> AdeCoeffs
     requires { slot < 4 }
     ensures { result ≡ ade_coeffs eps0 dt (pole_in material slot) }
 {
-    let held = material.poles[slot];
-    let pole = held.pole;
-    pole.ade_coeffs(eps0, dt).coeffs
+    material.poles[slot].coeffs(eps0, dt)
 }
 
 // The coefficients of the poles of material i.

@@ -1,5 +1,5 @@
 // One row of one component of the electric field, by the passes that both half steps share.
-ghost use Rattle.std.specs.Prelude.{◌≡◌, true, cond, ◌+◌, ◌-◌, ◌≤◌, ◌<◌, length, get_or};
+ghost use Rattle.std.specs.Prelude.{◌≡◌, ℕ, Float, true, cond, ◌+◌, ◌-◌, ◌≤◌, ◌<◌, length, get_or};
 ghost use Rattle.std.specs.Float.{nan};
 ghost use Rattle.root.specs.Rounded.{◌⊕◌, ◌⊖◌, ◌⊗◌, ◌⊘◌};
 ghost use Rattle.fdtd.specs.Yee.{ca, cb};
@@ -76,36 +76,26 @@ fn curls(scr: &mut Scratch, h: &[f64], n: usize, a: usize, z: usize, b: Side, c:
     }
 }
 
-// The new numbers of the cells from a up to z, which stand from q on: without dispersion, where dp is 0.0 everywhere,
-fn plain(e: &mut [f64], f: &Factors, curl: &[f64], q: usize, a: usize, z: usize, term: f64)
-    requires { (a ≤ z) × (z ≤ 512) × (q + z ≤ length e.old) × (z ≤ length curl.now) }
-    ensures { Span (λ i. (get_or f.now.ca i nan ⊗ get_or e.old (q + i) nan ⊕ get_or curl.now i nan ⊖ term) ⊘ get_or f.now.cb i nan) e.old q a z e.new }
-{
-    for i in a..z {
-        e[q + i] = update::electric_value(f.ca[i], e[q + i], curl[i], term, f.cb[i]);
-    }
-}
-
-// and with it, where dp stands from d on.
-fn dispersed(
+// The new numbers of the cells from a up to z, which stand from q on, by the dp/dt that term gives.
+fn numbers<F: Fn(usize) -> f64>(
     e: &mut [f64],
     f: &Factors,
     curl: &[f64],
-    poles: &[f64],
     q: usize,
-    d: usize,
     a: usize,
     z: usize,
-    dt: f64,
+    term: F,
 )
-    requires { (a ≤ z) × (z ≤ 512) × (q + z ≤ length e.old) × (z ≤ length curl.now) × (d + z ≤ length poles.now) }
-    ensures { Span (λ i. (get_or f.now.ca i nan ⊗ get_or e.old (q + i) nan ⊕ get_or curl.now i nan ⊖ get_or poles.now (d + i) nan ⊘ dt) ⊘ get_or f.now.cb i nan) e.old q a z e.new }
+    requires z_in_bounds { (a ≤ z) × (z ≤ 512) × (q + z ≤ length e.old) × (z ≤ length curl.now) }
+    requires callable { (i : ℕ) → i < z → F.pre term i }
+    ensures { (t : ℕ → Float) → ((i : ℕ) (x : Float) → i < z → F.post term i x → x ≡ t i) → Span (λ i. (get_or f.now.ca i nan ⊗ get_or e.old (q + i) nan ⊕ get_or curl.now i nan ⊖ t i) ⊘ get_or f.now.cb i nan) e.old q a z e.new }
 {
     for i in a..z {
-        e[q + i] = update::electric_value(f.ca[i], e[q + i], curl[i], poles[d + i] / dt, f.cb[i]);
+        e[q + i] = update::electric_value(f.ca[i], e[q + i], curl[i], term(i), f.cb[i]);
     }
 }
 
+// Without dispersion dp is 0.0 everywhere; with it dp stands from w.at on.
 fn fields(
     e: &mut [f64],
     f: &Factors,
@@ -120,9 +110,10 @@ fn fields(
     ensures { Span (λ i. number_of true w f.now curl.now poles.now e.old q i) e.old q a z e.new }
 {
     if w.on {
-        dispersed(e, f, curl, poles, q, w.at, a, z, w.dt);
+        numbers(e, f, curl, q, a, z, |i| poles[w.at + i] / w.dt);
     } else {
-        plain(e, f, curl, q, a, z, 0.0 / w.dt);
+        let none = 0.0 / w.dt;
+        numbers(e, f, curl, q, a, z, |_| none);
     }
 }
 

@@ -6,8 +6,8 @@ use mathlib.Core.Bool.{Bool, true, ◌&&◌}
 use borrow.Author.Tests.{eqb-true}
 use Rattle.std.proofs.Common.{Result, IsErr}
 use Rattle.refusals.specs.declared.Refusal.{Refusal}
-use Rattle.refusals.specs.Refusals.{code}
-use Rattle.refusals.proofs.Numbers.{some}
+use Rattle.refusals.specs.Refusals.{code, value_or}
+use Rattle.refusals.proofs.Numbers.{some, stands_in}
 use Rattle.grid.specs.declared.Record.{Record}
 use Rattle.grid.specs.declared.stores.Lengths.{Lengths}
 use Rattle.grid.specs.Fault.{fault_of}
@@ -21,6 +21,10 @@ pub turned_down : {A B : Type 0} (x : Result B Refusal) {n : ℕ} {r : Record} (
     outcome (code x) r s ≡ settle n r s r' s'
 turned_down x {n = zero} r' s' p e = absurd (some x p e)
 turned_down x {n = suc n} r' s' p e = rw e
+
+pub handed_back : {A : Type 0} (x : Result Record Refusal) {n : ℕ} (r r' : Record) {s : A} (s' : A) → IsErr x → code x ≡ n →
+    outcome (code x) (value_or r x) s ≡ settle n r s r' s'
+handed_back x r r' s' p e = rw (stands_in x p r) (turned_down x r' s' p e)
 
 pub own_fault : {B : Type 0} (x : Result B Refusal) {n : ℕ} (m : ℕ) → IsErr x → code x ≡ n → code x ≡ or_else n m
 own_fault x {n = zero} m p e = absurd (some x p e)

@@ -1,7 +1,8 @@
 // Refusals 1 to 3: what is wrong with a study record, the first fault first.
-ghost use Rattle.std.specs.Prelude.{◌&&◌, ◌≡◌, ◌≤◌, leb};
+ghost use Rattle.std.specs.Prelude.{◌&&◌, ◌≡◌, ◌≤◌, leb, IfOk};
 ghost use Rattle.std.specs.Float.Ieee.Positive.{positive};
 ghost use Rattle.refusals.specs.Refusals.{code};
+ghost use Rattle.grid.specs.Inner.Sound.{Sound};
 ghost use Rattle.grid.specs.Fault.{side_fits, sides_fit, size_fits, spacings_fit, is_absent, corners_fit, region_fits, layer_fits, material_steps, poles_fit, counts_fit, study_fits, fault_of};
 
 use crate::{Record, Region, RegionKind};
@@ -86,7 +87,7 @@ fn counts_fit(r: Record) -> bool
 }
 
 // Each counted pole can be stepped.
-fn material_steps(m: DispersiveMaterial, eps0: f64, dt: f64) -> bool
+pub fn material_steps(m: DispersiveMaterial, eps0: f64, dt: f64) -> bool
     requires { m.pole_count ≤ 4 }
     ensures { result ≡ material_steps eps0 dt m }
 {
@@ -129,7 +130,8 @@ fn study_fits(r: Record) -> bool
 // What is wrong with the record itself.
 #[tactic(auto, unfolding(crate::specs::Fault::fault_of))]
 pub fn fault_of(r: Record) -> Result<(), Refusal>
-    ensures { code result ≡ fault_of r }
+    ensures fault { code result ≡ fault_of r }
+    ensures sound { IfOk result (λ _. Sound r) }
 {
     require(size_fits(r.nx, r.ny, r.nz), Refusal::BadSize)?;
     require(spacings_fit(r.spacings), Refusal::BadSpacing)?;

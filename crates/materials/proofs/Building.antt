@@ -13,7 +13,7 @@ use lib.Ieee.{Float}
 use borrow.Author.Tests.{lt-ltb, ltb-true}
 use Rattle.root.specs.declared.vacuum.Vacuum.{Vacuum}
 use Rattle.root.specs.Constants.{vacuum_of}
-use Rattle.dispersion.specs.declared.PoleSlot.{PoleSlot}
+use Rattle.dispersion.specs.declared.Pole.{Pole}
 use Rattle.dispersion.specs.declared.DispersiveMaterial.{DispersiveMaterial}
 use Rattle.dispersion.specs.Ade.{bad_pole}
 use Rattle.grid.specs.declared.Record.{Record}
@@ -46,7 +46,7 @@ unfolding poles_fault
 build_none r n e = (lent_none r _ e).0.materials
 
 -- ---- a material of four pole places as a record keeps it, and what adding one may lean on
-pub kept_four : (n : ℕ) (d x : PoleSlot) (l : List PoleSlot) → length l ≡ 4 →
+pub kept_four : (n : ℕ) (d x : Pole) (l : List Pole) → length l ≡ 4 →
     (cond (ltb 0 n) (get_or l 0 x) d ∷ cond (ltb 1 n) (get_or l 1 x) d ∷ cond (ltb 2 n) (get_or l 2 x) d ∷ cond (ltb 3 n) (get_or l 3 x) d ∷ []) ≡ keep_first n d l
 unfolding keep_first
 kept_four zero d x (p ∷ q ∷ r ∷ s ∷ []) e = refl
@@ -76,24 +76,3 @@ add_none r m e =
     let t = first_none (leb m.pole_count r.pole_slots) 5 _ h.1 in
     let u = first_none (material_steps (eps_of r) r.spacings.dt m) 18 _ t.1 in
     record { fine = h.0; few = t.0; steps = u.0; free = ltb-true r.material_count 16 (first_none (ltb r.material_count 16) 4 0 u.1).0 }
-
--- too many poles are told first, so that it is all one whether 19 asks for a material that fits or for one whose poles can be stepped
-told_first : (few steps : Bool) (later : ℕ) → first few too_many_poles (first (few && steps) bad_pole later) ≡ first few too_many_poles (first steps bad_pole later)
-told_first true steps later = refl
-told_first false steps later = refl
-
-module _ (r : Record) (m : DispersiveMaterial) where
-  abbrev few : Bool
-  few = leb m.pole_count r.pole_slots
-
-  abbrev steps : Float → Bool
-  steps eps0 = material_steps eps0 r.spacings.dt m
-
-  abbrev none : ℕ
-  none = first (ltb r.material_count max_materials) full 0
-
-  pub told_by : {v : Vacuum} {fits : Bool} {none' bad told : ℕ} → v ≡ vacuum_of r.constants → fits ≡ (few && steps v.eps0) → none' ≡ none → bad ≡ first fits bad_pole none' →
-      told ≡ first few too_many_poles bad → told ≡ first few too_many_poles (first (steps (eps_of r)) bad_pole none)
-  told_by {v} {fits} c f n b t =
-      let fit : fits ≡ (few && steps (eps_of r)) = f ∙ ap (λ (u : Vacuum). few && steps u.eps0) c in
-      t ∙ ap (first few too_many_poles) (b ∙ ap (first fits bad_pole) n ∙ ap (λ (p : Bool). first p bad_pole none) fit) ∙ told_first few (steps (eps_of r)) none

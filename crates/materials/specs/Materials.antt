@@ -1,6 +1,8 @@
 -- The calls that add materials, place them in cells and build their dispersion. Definitions only.
 use Rattle.std.specs.Prelude.{ℕ, zero, suc, ◌+◌, ◌*◌, Bool, true, false, cond, ◌&&◌, ◌||◌, List, leb, ltb, eqb, length, get_or, set, Float}
 use Rattle.std.specs.Float.{nan}
+use Rattle.refusals.specs.declared.Refusal.TheVariants.{NoSuchMaterial, Full, TooManyPoles}
+use Rattle.refusals.specs.Refusals.{number}
 use Rattle.dispersion.specs.declared.DispersiveMaterial.{DispersiveMaterial}
 use Rattle.dispersion.specs.Ade.{bad_pole}
 use Rattle.grid.specs.declared.Record.{Record}
@@ -31,7 +33,7 @@ ids_set nx ny nz b id old = cellwise nx ny nz (λ i j k. cond (in_box b i j k) i
 
 -- ---- put_box: three numbers, or a registered material's numbers and its id; the answer is how many cells of the grid are in the box (document 02, S-5)
 abbrev pub no_such_material : ℕ
-no_such_material = 7
+no_such_material = number NoSuchMaterial
 
 pub record Placed : Type 0 where
   pub media : List Float
@@ -102,10 +104,10 @@ build_call r poles =
 
 -- ---- add_material: 6 TooManyPoles, then 19 BadPole (document 02, S-2), then 5 Full; no store is lent; the answer is the material's id
 abbrev pub full : ℕ
-full = 5
+full = number Full
 
 abbrev pub too_many_poles : ℕ
-too_many_poles = 6
+too_many_poles = number TooManyPoles
 
 unfoldable pub add_fault : Record → DispersiveMaterial → ℕ
 add_fault r m =

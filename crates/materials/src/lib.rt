@@ -1,7 +1,8 @@
 // Materials added to the record, placed in boxes of cells, and built.
 #![tactic(auto)]
 
-ghost use Rattle.std.specs.Prelude.{◌≡◌, true, cond, ◌*◌, ◌≤◌, ◌<◌, length};
+ghost use Rattle.std.specs.Prelude.{◌≡◌, true, cond, ◌*◌, ◌≤◌, ◌<◌, length, IfOk};
+ghost use Rattle.refusals.specs.Refusals.{code, value_or};
 ghost use Rattle.dispersion.specs.Material.{blank_slot};
 ghost use Rattle.grid.specs.Canon.{canon_material};
 ghost use Rattle.grid.specs.Stores.{outcome};
@@ -9,37 +10,16 @@ ghost use Rattle.materials.specs.Inner.Fillable.{Fillable};
 ghost use Rattle.materials.specs.Materials.{medium_at, media_set, placed, assigned, is_known, put_into, put_fault, filled, put_box_call, halfspace_call, any_pole, built_of, build_call, add_fault, add_call};
 
 use cells::IndexBox;
-use dispersion::{BAD_POLE, DispersiveMaterial, PoleSlot};
-use grid::{Answer, Record, fault, stores};
+use dispersion::{DispersiveMaterial, Pole};
+use grid::{Record, fault, stores};
+use refusals::{Refusal, require};
 use root::vacuum;
-
-pub const FULL: u32 = 5;
-
-pub const TOO_MANY_POLES: u32 = 6;
-
-pub const NO_SUCH_MATERIAL: u32 = 7;
-
-// The refusal, the record, and the id of the material that was added.
-#[derive(Clone, Copy)]
-pub struct Added {
-    pub refusal: u32,
-    pub study: Record,
-    pub id: u32,
-}
 
 // What is put into a box: three numbers, or a registered material.
 #[derive(Clone, Copy)]
 pub enum Put {
     Numbers { eps_r: f64, mu_r: f64, sigma: f64 },
     Library { id: u32 },
-}
-
-// The refusal, the record, and how many cells were set.
-#[derive(Clone, Copy)]
-pub struct Counted {
-    pub refusal: u32,
-    pub study: Record,
-    pub cells: u32,
 }
 
 // Three numbers in each cell of a box.
@@ -71,16 +51,13 @@ fn is_known(r: Record, what: Put) -> bool
     }
 }
 
-fn put_fault(r: Record, media: usize, ids: usize, what: Put) -> u32
-    ensures { result ≡ put_fault r media ids what }
+#[tactic(auto, unfolding(crate::specs::Materials::put_fault, grid::specs::Stores::fault_lent, grid::specs::Stores::store_lengths), using(grid::proofs::Settled::own_fault, grid::proofs::Settled::later_fault))]
+fn put_fault(r: Record, media: usize, ids: usize, what: Put) -> Result<(), Refusal>
+    ensures { code result ≡ put_fault r media ids what }
 {
-    let j = stores::judge(r);
-    let l = j.lengths;
-    let f = stores::lent_fault(j.refusal, (media == l.media) & (ids == l.ids));
-    stores::or_else(
-        f,
-        fault::first_fault(is_known(r, what), NO_SUCH_MATERIAL, 0),
-    )
+    let l = stores::judge(r)?;
+    require((media == l.media) & (ids == l.ids), Refusal::BadStore)?;
+    require(is_known(r, what), Refusal::NoSuchMaterial)
 }
 
 // A registered material's numbers and its id in each cell of a box.
@@ -107,23 +84,19 @@ fn put_into(r: Record, b: IndexBox, what: Put, media: &mut [f64], ids: &mut [u32
 }
 
 // Puts what is asked for into each cell of a box, and answers how many cells it has. Where three numbers are put, the ids stand.
-pub fn put_box(r: Record, b: IndexBox, what: Put, media: &mut [f64], ids: &mut [u32]) -> Counted
-    ensures { outcome result.refusal result.study (filled (placed media.new ids.new) result.cells) ≡ put_box_call r b what (placed media.old ids.old) }
+#[tactic(auto, unfolding(crate::specs::Materials::put_box_call), using(crate::proofs::Placing::fillable, grid::proofs::Settled::turned_down, grid::proofs::Settled::taken_up, refusals::proofs::Numbers::stands_in))]
+pub fn put_box(
+    r: Record,
+    b: IndexBox,
+    what: Put,
+    media: &mut [f64],
+    ids: &mut [u32],
+) -> Result<u32, Refusal>
+    ensures { outcome (code result) r (filled (placed media.new ids.new) (value_or 0 result)) ≡ put_box_call r b what (placed media.old ids.old) }
 {
-    let f = put_fault(r, media.len(), ids.len(), what);
-    if f != 0 {
-        return Counted {
-            refusal: f,
-            study: r,
-            cells: 0,
-        };
-    }
+    put_fault(r, media.len(), ids.len(), what)?;
     put_into(r, b, what, media, ids);
-    Counted {
-        refusal: 0,
-        study: r,
-        cells: cells::box_cells(r.nx, r.ny, r.nz, b),
-    }
+    Ok(cells::box_cells(r.nx, r.ny, r.nz, b))
 }
 
 // A registered material in every cell from plane k0 on.
@@ -133,8 +106,8 @@ pub fn assign_material_halfspace_z(
     k0: usize,
     media: &mut [f64],
     ids: &mut [u32],
-) -> Answer
-    ensures { outcome result.refusal result.study (placed media.new ids.new) ≡ halfspace_call r id k0 (placed media.old ids.old) }
+) -> Result<(), Refusal>
+    ensures { outcome (code result) r (placed media.new ids.new) ≡ halfspace_call r id k0 (placed media.old ids.old) }
 {
     let b = IndexBox {
         i0: 0,
@@ -144,13 +117,8 @@ pub fn assign_material_halfspace_z(
         k0,
         k1: r.nz,
     };
-    let what = Put::Library { id };
-    let o = put_box(r, b, what, media, ids);
-    let study = o.study;
-    Answer {
-        refusal: o.refusal,
-        study,
-    }
+    put_box(r, b, Put::Library { id }, media, ids)?;
+    Ok(())
 }
 
 // Whether a counted material has a pole.
@@ -158,13 +126,10 @@ fn any_pole(r: Record) -> bool
     requires { r.material_count ≤ 16 }
     ensures { result ≡ any_pole r }
 {
-    let n = r.material_count;
-    let mut i = 0;
-    while i < n {
+    for i in 0..r.material_count {
         if 0 < r.materials[i].pole_count {
             return true;
         }
-        i += 1;
     }
     false
 }
@@ -177,34 +142,24 @@ fn built_of(r: Record) -> usize
 }
 
 // Fixes the built count, and clears the pole store.
-pub fn build_dispersion(r: Record, poles: &mut [f64]) -> Answer
-    ensures { outcome result.refusal result.study poles.new ≡ build_call r poles.old }
+#[tactic(auto, unfolding(crate::specs::Materials::build_call, crate::specs::Materials::poles_fault, grid::specs::Stores::fault_lent, grid::specs::Stores::store_lengths), using(grid::proofs::Settled::own_fault, grid::proofs::Settled::later_fault, grid::proofs::Settled::handed_back, grid::proofs::Settled::taken_up))]
+pub fn build_dispersion(r: Record, poles: &mut [f64]) -> Result<Record, Refusal>
+    ensures { outcome (code result) (value_or r result) poles.new ≡ build_call r poles.old }
 {
-    let j = stores::judge(r);
-    let f = stores::lent_fault(j.refusal, poles.len() == j.lengths.poles);
-    if f != 0 {
-        return Answer {
-            refusal: f,
-            study: r,
-        };
-    }
-    let mut q = r;
-    q.built_count = built_of(r);
-    stores::clear(poles);
-    Answer {
-        refusal: 0,
-        study: q,
-    }
+    let l = stores::judge(r)?;
+    require(poles.len() == l.poles, Refusal::BadStore)?;
+    poles.fill(0.0);
+    Ok(Record {
+        built_count: built_of(r),
+        ..r
+    })
 }
 
 // A pole's place as a record keeps it: blank where it is not counted.
-fn kept_slot(counted: bool, s: PoleSlot) -> PoleSlot
+fn kept_slot(counted: bool, s: Pole) -> Pole
     ensures { result ≡ cond counted s blank_slot }
 {
-    if counted {
-        return s;
-    }
-    dispersion::blank_slot()
+    if counted { s } else { dispersion::blank_slot() }
 }
 
 // A material as a record keeps it.
@@ -216,53 +171,36 @@ fn kept_material(m: DispersiveMaterial) -> DispersiveMaterial
     let b = kept_slot(1 < n, m.poles[1]);
     let c = kept_slot(2 < n, m.poles[2]);
     let d = kept_slot(3 < n, m.poles[3]);
-    let poles = [a, b, c, d];
     DispersiveMaterial {
-        eps_inf: m.eps_inf,
-        sigma: m.sigma,
-        mu_r: m.mu_r,
-        pole_count: n,
-        poles,
+        poles: [a, b, c, d],
+        ..m
     }
 }
 
-// A material with too many poles is refused for that, so that whether it fits tells 19 apart.
-fn add_fault(r: Record, m: DispersiveMaterial) -> u32
-    ensures { result ≡ add_fault r m }
+#[tactic(auto, unfolding(crate::specs::Materials::add_fault), using(grid::proofs::Settled::own_fault, grid::proofs::Settled::later_fault))]
+fn add_fault(r: Record, m: DispersiveMaterial) -> Result<(), Refusal>
+    ensures fault { code result ≡ add_fault r m }
+    ensures free { IfOk result (λ _. r.material_count < 16) }
 {
-    let f = fault::fault_of(r);
-    if f != 0 {
-        return f;
-    }
-    let few = m.pole_count <= r.pole_slots;
+    fault::fault_of(r)?;
+    require(m.pole_count <= r.pole_slots, Refusal::TooManyPoles)?;
     let eps0 = vacuum::chosen(r.constants).eps0;
-    let fits = fault::material_fits(m, r.pole_slots, eps0, r.spacings.dt);
-    let free = r.material_count < fault::MAX_MATERIALS;
-    let full = fault::first_fault(free, FULL, 0);
-    let bad = fault::first_fault(fits, BAD_POLE, full);
-    fault::first_fault(few, TOO_MANY_POLES, bad)
+    require(
+        fault::material_steps(m, eps0, r.spacings.dt),
+        Refusal::BadPole,
+    )?;
+    require(r.material_count < fault::MAX_MATERIALS, Refusal::Full)
 }
 
 // Puts a material behind those that stand, and answers its id.
-pub fn add_material(r: Record, m: DispersiveMaterial) -> Added
-    ensures { outcome result.refusal result.study result.id ≡ add_call r m }
+#[tactic(auto, unfolding(crate::specs::Materials::add_call, crate::specs::Materials::added), using(grid::proofs::Settled::turned_down, grid::proofs::Settled::taken_up, refusals::proofs::Numbers::stands_in))]
+pub fn add_material(r: Record, m: DispersiveMaterial) -> Result<(Record, u32), Refusal>
+    ensures { outcome (code result) (value_or (r, 0) result).0 (value_or (r, 0) result).1 ≡ add_call r m }
 {
-    let f = add_fault(r, m);
-    if f != 0 {
-        return Added {
-            refusal: f,
-            study: r,
-            id: 0,
-        };
-    }
+    add_fault(r, m)?;
     let at = r.material_count;
-    let kept = kept_material(m);
     let mut q = r;
-    q.materials[at] = kept;
+    q.materials[at] = kept_material(m);
     q.material_count = at + 1;
-    Added {
-        refusal: 0,
-        study: q,
-        id: at as u32,
-    }
+    Ok((q, at as u32))
 }

@@ -5,13 +5,15 @@ pub mod layer;
 
 ghost use Rattle.std.specs.Prelude.{◌≡◌, ◌+◌, ◌*◌, ◌≤◌, length};
 ghost use Rattle.codec.specs.Lists.{put};
+ghost use Rattle.refusals.specs.Refusals.{code, value_or};
+ghost use Rattle.grid.specs.declared.Record.{Record};
 ghost use Rattle.grid.specs.Inner.Sound.{Sound};
 ghost use Rattle.grid.specs.Stores.{stores, outcome, store_lengths, lengths_of};
 ghost use Rattle.opening.specs.Opening.{open_record, open_media, inactive, open_tables, open_stores, open_call};
 
 use dispersion::DispersiveMaterial;
-use grid::stores::Lengths;
-use grid::{Answer, Clock, Record, Region, RegionKind, stores};
+use grid::{Clock, Record, Region, RegionKind, stores};
+use refusals::Refusal;
 use root::Spacings;
 
 // What an accepted opening gives; nothing is judged here. A host takes its first standing record from it.
@@ -25,36 +27,31 @@ pub fn open_record(
 ) -> Record
     ensures { result ≡ open_record nx ny nz pole_slots spacings constants }
 {
-    let vacuum = DispersiveMaterial::vacuum();
-    let materials = [vacuum; 16];
-    let off = [false, false, false];
-    let region = Region {
-        kind: RegionKind::Absent,
-        i0: 0,
-        i1: 0,
-        j0: 0,
-        j1: 0,
-        k0: 0,
-        k1: 0,
-    };
-    let clock = Clock {
-        time: 0.0,
-        steps: 0,
-    };
     Record {
         nx,
         ny,
         nz,
         pole_slots,
         spacings,
-        periodic: off,
-        active: off,
+        periodic: [false; 3],
+        active: [false; 3],
         layer_on: false,
-        materials,
+        materials: [DispersiveMaterial::vacuum(); 16],
         material_count: 1,
         built_count: 0,
-        region,
-        clock,
+        region: Region {
+            kind: RegionKind::Absent,
+            i0: 0,
+            i1: 0,
+            j0: 0,
+            j1: 0,
+            k0: 0,
+            k1: 0,
+        },
+        clock: Clock {
+            time: 0.0,
+            steps: 0,
+        },
         constants,
     }
 }
@@ -104,20 +101,19 @@ fn open_stores(
     ensures { stores e.new h.new media.new psi_e.new psi_h.new tables.new poles.new aux.new ids.new ≡ open_stores r }
 {
     let n = r.nx * r.ny * r.nz;
-    stores::clear(e);
-    stores::clear(h);
+    e.fill(0.0);
+    h.fill(0.0);
     open_media(media, n);
-    stores::clear(psi_e);
-    stores::clear(psi_h);
+    psi_e.fill(0.0);
+    psi_h.fill(0.0);
     open_tables(tables, r.nx, r.ny, r.nz);
-    stores::clear(poles);
-    stores::clear(aux);
-    stores::clear_ids(ids);
+    poles.fill(0.0);
+    aux.fill(0.0);
+    ids.fill(0);
 }
 
-// Opens a study in the nine lent stores, or gives the standing record back with a refusal.
+// Opens a study in the nine lent stores. A study that stands, and is to be opened anew, stays as it was where this is refused.
 pub fn new_rect(
-    standing: Record,
     nx: usize,
     ny: usize,
     nz: usize,
@@ -133,31 +129,12 @@ pub fn new_rect(
     poles: &mut [f64],
     aux: &mut [f64],
     ids: &mut [u32],
-) -> Answer
-    ensures { outcome result.refusal result.study (stores e.new h.new media.new psi_e.new psi_h.new tables.new poles.new aux.new ids.new) ≡ open_call standing nx ny nz pole_slots spacings constants (stores e.old h.old media.old psi_e.old psi_h.old tables.old poles.old aux.old ids.old) }
+) -> Result<Record, Refusal>
+    ensures { (standing : Record) → outcome (code result) (value_or standing result) (stores e.new h.new media.new psi_e.new psi_h.new tables.new poles.new aux.new ids.new) ≡ open_call standing nx ny nz pole_slots spacings constants (stores e.old h.old media.old psi_e.old psi_h.old tables.old poles.old aux.old ids.old) }
 {
     let r = open_record(nx, ny, nz, pole_slots, spacings, constants);
-    let lent = Lengths {
-        electric: e.len(),
-        magnetic: h.len(),
-        media: media.len(),
-        psi_e: psi_e.len(),
-        psi_h: psi_h.len(),
-        tables: tables.len(),
-        poles: poles.len(),
-        aux: aux.len(),
-        ids: ids.len(),
-    };
-    let f = stores::fault_with(r, lent);
-    if f != 0 {
-        return Answer {
-            refusal: f,
-            study: standing,
-        };
-    }
+    let lent = stores::lengths_of(e, h, media, psi_e, psi_h, tables, poles, aux, ids);
+    stores::fault_with(r, lent)?;
     open_stores(r, e, h, media, psi_e, psi_h, tables, poles, aux, ids);
-    Answer {
-        refusal: 0,
-        study: r,
-    }
+    Ok(r)
 }

@@ -1,10 +1,11 @@
 -- A refusal's number is not 0, so that 0 says that there is none. Assumes nothing.
-use Rattle.std.proofs.Common.{ℕ, ◌≡◌, Result, Ok, Err, IsErr}
+use Rattle.std.proofs.Common.{ℕ, ◌≡◌, Result, Ok, Err, IsErr, IfOk, sym}
 use Prim.Native.Nat.{◌≤◌}
 use native.Mathlib.Omega.{arith}
+use mathlib.Core.Path.{refl}
 use Rattle.refusals.specs.declared.Refusal.{Refusal}
 use Rattle.refusals.specs.declared.Refusal.TheVariants.{BadSize, BadSpacing, BadStudy, BadStore, Full, TooManyPoles, NoSuchMaterial, StaleMaterial, BadRegion, BadOrder, SpentClock, NoRoom, Short, BadMark, BadRecord, Trailing, NoSuchPlane, BadPole}
-use Rattle.refusals.specs.Refusals.{number, code}
+use Rattle.refusals.specs.Refusals.{number, code, value_or}
 
 pub numbered : (f : Refusal) → 1 ≤ number f
 numbered BadSize = omega arith
@@ -30,3 +31,13 @@ numbered BadPole = omega arith
 pub some : {A : Type 0} (x : Result A Refusal) → IsErr x → code x ≡ 0 → ⊥
 some (Ok x) h e = absurd (let z : ⊥ = cc in z)
 some (Err f) h e = let low = numbered f in omega (arith, low)
+
+-- and its answer is what stands in for one
+pub stands_in : {A : Type 0} (x : Result A Refusal) → IsErr x → (d : A) → value_or d x ≡ d
+stands_in (Ok x) h d = absurd (let z : ⊥ = cc in z)
+stands_in (Err f) h d = refl
+
+-- what holds where a fault is 0 holds where it is told and there is an answer
+pub if_ok : {A : Type 0} (x : Result A Refusal) (n : ℕ) {P : Type 0} → code x ≡ n → (n ≡ 0 → P) → IfOk x (λ _. P)
+if_ok (Ok x) n e h = h (sym e)
+if_ok (Err f) n e h = tt

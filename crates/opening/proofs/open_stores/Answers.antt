@@ -1,4 +1,4 @@
-use mathlib.Core.Path.{ap}
+use Rattle.std.proofs.Common.{ap}
 use Rattle.grid.specs.Stores.{stores, store_lengths}
 use Rattle.opening.proofs.Opened.{opened_are}
 use Rattle.opening.proofs.open_stores.Goals as goal
@@ -16,12 +16,12 @@ returns c =
     let a = c.args in
     opened_are a.r (stores a.e.now a.h.now a.media.now a.psi_e.now a.psi_h.now a.tables.now a.poles.now a.aux.now a.ids.now)
     _ _ _ _ _ _ _ _ _ c.requires.1
-    c.clear.ensures
-    c.clear-2.ensures
+    (c.fill.ensures.after (λ y h. h))
+    (c.fill-2.ensures.after (λ y h. h))
     c.open_media.ensures
-    c.clear-3.ensures
-    c.clear-4.ensures
+    (c.fill-3.ensures.after (λ y h. h))
+    (c.fill-4.ensures.after (λ y h. h))
     c.open_tables.ensures
-    c.clear-5.ensures
-    c.clear-6.ensures
-    c.clear_ids.ensures
+    (c.fill-5.ensures.after (λ y h. h))
+    (c.fill-6.ensures.after (λ y h. h))
+    (c.fill-7.ensures.after (λ y h. h))

@@ -1,7 +1,7 @@
-use mathlib.Core.Path.{refl}
+use Rattle.std.proofs.Common.{rules, refl}
 use Rattle.opening.specs.Layer.{cleared_layer}
 use Rattle.opening.proofs.layer.clear_layer.Goals as goal
 
 pub returns : goal.returns
 unfolding cleared_layer
-returns c = rw (c.open_tables.ensures, c.clear-2.ensures, c.clear.ensures) refl
+returns c = rw (c.open_tables.ensures, c.fill-2.ensures.after (λ y h. h), c.fill.ensures.after (λ y h. h)) refl

@@ -50,12 +50,8 @@ fn put_list(out: &mut [u8], at: usize, r: Record)
     requires { (at + ml_length * r.material_count ≤ length out.old) × (r.material_count ≤ 16) }
     ensures { out.new ≡ put out.old at (list_bytes r) }
 {
-    let count = r.material_count;
-    let mut i = 0;
-    while i < count {
-        let m = r.materials[i];
-        payloads::put_ml(out, at + ML_LENGTH * i, m);
-        i += 1;
+    for i in 0..r.material_count {
+        payloads::put_ml(out, at + ML_LENGTH * i, r.materials[i]);
     }
 }
 
@@ -116,11 +112,9 @@ fn put_six<'a>(
     requires { (at + 48 * n ≤ length out.old) × (length psi_e.now ≡ 6 * n) × (length psi_h.now ≡ 6 * n) }
     ensures { out.new ≡ put out.old at (floats_bytes (cond electric psi_e.now psi_h.now)) }
 {
-    let mut k = 0;
-    while k < 6 {
+    for k in 0..6 {
         let which = memory::in_order(electric, k);
         put_memory(out, at + 8 * (k * n), which, psi_e, psi_h, n);
-        k += 1;
     }
 }
 

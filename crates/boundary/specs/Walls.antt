@@ -1,6 +1,8 @@
 -- The calls that set walls: `set_periodic`, and `set_boundary` for periodic, conducting and lossy walls (boundary.rs; document 01, 4). The absorbing
 -- layer has its call in `cpml`. Definitions only.
 use Rattle.std.specs.Prelude.{ℕ, Bool, false, ◌&&◌, List, [], ◌∷◌, length, ◌==◌, nat_le, Float}
+use Rattle.refusals.specs.declared.Refusal.TheVariants.{BadOrder}
+use Rattle.refusals.specs.Refusals.{number}
 use Rattle.grid.specs.declared.Record.{Record}
 use Rattle.grid.specs.Fault.{first, fault_of}
 use Rattle.grid.specs.Stores.{store_lengths, or_else, fault_lent, Outcome, settle}
@@ -26,7 +28,7 @@ set_plain_call periodic r s =
 
 -- ---- set_boundary, lossy: 10 BadOrder after the first four; the periodic flags stay
 abbrev pub bad_order : ℕ
-bad_order = 10
+bad_order = number BadOrder
 
 abbrev pub max_order : ℕ
 max_order = 8

@@ -24,7 +24,8 @@ use Rattle.grid.proofs.Tests.{and_left, and_right, first_none}
 use Rattle.grid.specs.Stores.{number_at, cells}
 use Rattle.grid.proofs.Judging.{poles_at}
 use Rattle.ade.specs.Polarization.{polarized, pole_at, pole_count_at, p_old, p_prev, p_new, p_after, p_prev_after, dp_after, pole_number, poles_after}
-use Rattle.ade.specs.Inner.Runs.{PolesReady, PolesRoom, coeff_at, Table, Counts, moved, through, Changed, field_at, by_cell}
+use Rattle.ade.specs.declared.Stepped.{Stepped}
+use Rattle.ade.specs.Inner.Runs.{PolesReady, PolesRoom, coeff_at, nothing, Table, moved, through, Changed, field_at, by_cell}
 use Rattle.ade.proofs.Columns.{moved_same}
 
 -- ---- a test that only n itself can change
@@ -327,10 +328,10 @@ module _ (eps0 : Float) (r : Record) (ids : List ℕ) (electric old : List Float
           ∙ get_or-replicate (3 * N) (x * N + m) zero_f nan v
           ∙ sym (ap (G eps0 r ids electric old m 0) q ∙ none_summed eps0 r ids electric old m x)
 
-  pub advanced : (co : List Float) (counts : List ℕ) (start new : List Float) → start ≡ cleared → Table eps0 r M co → Counts r M counts →
-      Changed N 0 N (by_cell co counts ids electric N Slots) start new → new ≡ poles_after eps0 r ids electric old
+  pub advanced : (table : List Stepped) (start new : List Float) → start ≡ cleared → Table eps0 r M table →
+      Changed N 0 N (by_cell table ids electric N Slots) start new → new ≡ poles_after eps0 r ids electric old
   unfolding poles_after
-  advanced co counts start new e table count_is t =
+  advanced table start new e of_all t =
       let long : length new ≡ (6 * Slots + 3) * N = t.same ∙ ap length e ∙ cleared_length ∙ ready.stored in
       sym (parts_whole (6 * Slots + 3) N new long)
       ∙ joined_same (6 * Slots + 3) _ _ (λ n hn.
@@ -341,11 +342,12 @@ module _ (eps0 : Float) (r : Record) (ids : List ℕ) (electric old : List Float
       each n m hn hm =
           let id : ℕ = get_or ids m 0 in
           let hi : id < M = ready.known m hm in
-          let k : ℕ → AdeCoeffs = λ s. coeff_at co (4 * id + s) in
+          let k : Stepped = get_or table id nothing in
+          let is = of_all.each id hi in
           let first : AsG eps0 r ids electric old m 0 (λ y. number_at start N y m) = λ y hy. ap (λ (l : List Float). number_at l N y m) e ∙ at_first m hm y hy in
           t.done n m (omega arith) hm hm
-          ∙ ap (λ (c : ℕ). through k Slots (field_at electric N m) c (λ y. number_at start N y m) n) (count_is.each id hi)
-          ∙ all_passes eps0 r ids electric old m k (λ y. number_at start N y m) (poles_at r id ready.fit hi) (λ s hs. table.each id s hi hs) first (pole_count r id) (omega arith) n hn
+          ∙ ap (λ (c : ℕ). through (coeff_at k) Slots (field_at electric N m) c (λ y. number_at start N y m) n) is.counted
+          ∙ all_passes eps0 r ids electric old m (coeff_at k) (λ y. number_at start N y m) (poles_at r id ready.fit hi) is.listed.each first (pole_count r id) (omega arith) n hn
           ∙ all_done eps0 r ids electric old m n hn
 
   -- what the tables and the cells ask
@@ -359,7 +361,7 @@ module _ (eps0 : Float) (r : Record) (ids : List ℕ) (electric old : List Float
     blocks = λ b h. omega (arith, e, ready.stored, block_end b (6 * Slots + 3) N h);
   }
 
-  pub known_counts : (counts : List ℕ) → Counts r M counts → (m : ℕ) → m < N → (get_or ids m 0 < 16) × (get_or counts (get_or ids m 0) 0 ≤ Slots)
-  known_counts counts p m h =
+  pub known_counts : (table : List Stepped) → Table eps0 r M table → (m : ℕ) → m < N → (get_or ids m 0 < 16) × ((get_or table (get_or ids m 0) nothing).count ≤ Slots)
+  known_counts table p m h =
       let hi : get_or ids m 0 < M = ready.known m h in
-      (omega arith, omega (arith, p.each (get_or ids m 0) hi, poles_at r (get_or ids m 0) ready.fit hi))
+      (omega arith, omega (arith, (p.each (get_or ids m 0) hi).counted, poles_at r (get_or ids m 0) ready.fit hi))

@@ -15,7 +15,8 @@ use Rattle.dispersion.specs.declared.AdeCoeffs.{AdeCoeffs}
 use Rattle.cells.specs.Reading.{block_end}
 use Rattle.grid.specs.Stores.{number_at}
 use Rattle.ade.specs.Polarization.{polarized}
-use Rattle.ade.specs.Inner.Runs.{coeff_at, store_moved, moved, tripled, through, Changed, field_at, by_span, by_three, by_run, by_cell, RunEnd}
+use Rattle.ade.specs.declared.Stepped.{Stepped}
+use Rattle.ade.specs.Inner.Runs.{coeff_at, nothing, store_moved, moved, tripled, through, Changed, field_at, by_span, by_three, by_run, by_cell, RunEnd}
 
 -- two places of two blocks, or two of one, are two places
 same_block : (n x i a m : ℕ) → a < n → m < n → x * n + a ≡ i * n + m → x ≡ i
@@ -150,34 +151,34 @@ three_done k electric n i j d a z old one two new p q r =
     (changed_then n a z _ _ old one two (span_heeds k electric n 1 (i + 1) (j + 1) (d + 1)) p q) r
 
 -- one slot more
-pub run_none : (co electric : List Float) (n slots base a z : ℕ) (s : List Float) → Changed n a z (by_run co electric n slots base 0) s s
+pub run_none : (k : Stepped) (electric : List Float) (n slots a z : ℕ) (s : List Float) → Changed n a z (by_run k electric n slots 0) s s
 unfolding through
-run_none co electric n slots base a z s = record {
+run_none k electric n slots a z s = record {
   same = refl;
   done = λ x m h k l. refl;
   below = λ x m h l. refl;
   above = λ x m h l. refl;
 }
 
-pub run_more : (co electric : List Float) (n slots base s a z : ℕ) (old now new : List Float) → Changed n a z (by_run co electric n slots base s) old now →
-    Changed n a z (by_three (coeff_at co (base + s)) electric n (3 * s) (3 * slots + 3 * s) (6 * slots)) now new →
-    Changed n a z (by_run co electric n slots base (s + 1)) old new
+pub run_more : (k : Stepped) (electric : List Float) (n slots s a z : ℕ) (old now new : List Float) → Changed n a z (by_run k electric n slots s) old now →
+    Changed n a z (by_three (coeff_at k s) electric n (3 * s) (3 * slots + 3 * s) (6 * slots)) now new → Changed n a z (by_run k electric n slots (s + 1)) old new
 unfolding through
-run_more co electric n slots base s a z old now new p q =
-    changed_as n a z _ _ old new (λ m g x h k. rw (add-one s) refl)
-    (changed_then n a z (by_run co electric n slots base s) (by_three (coeff_at co (base + s)) electric n (3 * s) (3 * slots + 3 * s) (6 * slots)) old now new
-    (λ m g h f x. tripled_heeds (coeff_at co (base + s)) (field_at electric n m) (3 * s) (3 * slots + 3 * s) (6 * slots) g h f x) p q)
+run_more k electric n slots s a z old now new p q =
+    changed_as n a z _ _ old new (λ m g x h l. rw (add-one s) refl)
+    (changed_then n a z (by_run k electric n slots s) (by_three (coeff_at k s) electric n (3 * s) (3 * slots + 3 * s) (6 * slots)) old now new
+    (λ m g h f x. tripled_heeds (coeff_at k s) (field_at electric n m) (3 * s) (3 * slots + 3 * s) (6 * slots) g h f x) p q)
 
 -- one run more
-pub cells_more : (co : List Float) (counts ids : List ℕ) (electric : List Float) (n slots a z : ℕ) (old now new : List Float) →
-    Changed n 0 a (by_cell co counts ids electric n slots) old now → RunEnd ids n a z →
-    Changed n a z (by_run co electric n slots (4 * get_or ids a 0) (get_or counts (get_or ids a 0) 0)) now new → Changed n 0 z (by_cell co counts ids electric n slots) old new
-cells_more co counts ids electric n slots a z old now new p r q =
-    changed_on n a z (by_cell co counts ids electric n slots) old now new
-    (λ m g h f x. through_heeds (λ s. coeff_at co (4 * get_or ids m 0 + s)) slots (field_at electric n m) (get_or counts (get_or ids m 0) 0) g h f x)
+pub cells_more : (table : List Stepped) (ids : List ℕ) (electric : List Float) (n slots a z : ℕ) (old now new : List Float) →
+    Changed n 0 a (by_cell table ids electric n slots) old now → RunEnd ids n a z →
+    Changed n a z (by_run (get_or table (get_or ids a 0) nothing) electric n slots (get_or table (get_or ids a 0) nothing).count) now new →
+    Changed n 0 z (by_cell table ids electric n slots) old new
+cells_more table ids electric n slots a z old now new p r q =
+    changed_on n a z (by_cell table ids electric n slots) old now new
+    (λ m g h f x. let k = get_or table (get_or ids m 0) nothing in through_heeds (coeff_at k) slots (field_at electric n m) k.count g h f x)
     (omega (arith, r.further)) p
     (changed_as n a z _ _ now new
-    (λ m g x h k. ap (λ (id : ℕ). by_run co electric n slots (4 * id) (get_or counts id 0) m g x) (sym (r.alike m h k))) q)
+    (λ m g x h l. ap (λ (id : ℕ). by_run (get_or table id nothing) electric n slots (get_or table id nothing).count m g x) (sym (r.alike m h l))) q)
 
 -- ---- one cell more
 pub span_more : (k : AdeCoeffs) (electric : List Float) (n c i j d a m : ℕ) (old now new : List Float) → Changed n a m (by_span k electric n c i j d) old now →

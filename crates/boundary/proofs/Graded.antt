@@ -1,5 +1,5 @@
 -- The walls' numbers looked up, and what each branch of the code picks. Assumes nothing.
-use Rattle.std.proofs.Common.{◌≡◌, ℕ, ◌+◌, ◌-◌, ◌*◌, ◌/◌, ◌<◌, ◌≤◌, Bool, true, false, cond, ◌&&◌, eqb, List, length, get_or, sym, refl, ap, ◌∙◌, zero-add, arith, le-ltb, lt-ltb}
+use Rattle.std.proofs.Common.{◌≡◌, ℕ, ◌+◌, ◌-◌, ◌*◌, ◌<◌, ◌≤◌, Bool, true, false, cond, ◌&&◌, eqb, List, length, get_or, sym, refl, ap, ◌∙◌, zero-add, arith}
 use lib.Ieee.{Float, nan}
 use Rattle.codec.specs.Lists.{put}
 use Rattle.codec.proofs.Lists.{put_length, put_before, put_inside}
@@ -7,10 +7,9 @@ use Rattle.cells.specs.Cells.{row, cellwise}
 use Rattle.cells.specs.Reading.{length_row}
 use Rattle.cells.proofs.Written.{get_d_row}
 use Rattle.cells.proofs.Pointwise.{cellwise_same, cells_same}
-use Rattle.root.specs.Rounded.{◌⊗◌, ◌⊘◌, zero_f}
 use Rattle.grid.specs.declared.Record.{Record}
 use Rattle.boundary.specs.declared.LossyAbsorber.{LossyAbsorber}
-use Rattle.boundary.specs.Lossy.{power, of_count, wall_sigma, strongest, clamped, thick_x, thick_y, thick_z, graded_sigma, lossy_sigma, no_wall, lossy_media}
+use Rattle.boundary.specs.Lossy.{wall_sigma, strongest, thick_x, thick_y, thick_z, graded_sigma, lossy_sigma, no_wall, lossy_media}
 
 -- ---- the walls' numbers, those of x first, then those of y and of z
 -- sigma of cell (i, j, k) by the numbers looked up
@@ -63,27 +62,6 @@ pub graded_cells : (nx ny nz tx ty tz order : ℕ) (max : Float) (w wx wy wz m n
 unfolding graded_sigma
 graded_cells nx ny nz tx ty tz order max w wx wy wz m n at long x y z e =
     e ∙ ap (put m at) (cells_looked nx ny nz (wall_sigma tx order max) (wall_sigma ty order max) (wall_sigma tz order max) w wx wy wz long x y z)
-
--- ---- what each branch picks
-pub wall_in : (t order : ℕ) (max : Float) (d : ℕ) → d < t → wall_sigma t order max d ≡ max ⊗ power (of_count (t - d) ⊘ of_count t) order
-unfolding wall_sigma
-wall_in t order max d h = ap (λ (b : Bool). cond b (max ⊗ power (of_count (t - d) ⊘ of_count t) order) zero_f) (lt-ltb d t h)
-
-pub wall_out : (t order : ℕ) (max : Float) (d : ℕ) → t ≤ d → wall_sigma t order max d ≡ zero_f
-unfolding wall_sigma
-wall_out t order max d h = ap (λ (b : Bool). cond b (max ⊗ power (of_count (t - d) ⊘ of_count t) order) zero_f) (le-ltb d t h)
-
-pub clamp_none : (p : Bool) (t n : ℕ) → p ≡ true → 0 ≡ clamped p t n
-unfolding clamped
-clamp_none p t n h = sym (ap (λ (b : Bool). clamped b t n) h)
-
-pub clamp_thin : (p : Bool) (t n : ℕ) → p ≡ false → t < n / 2 → t ≡ clamped p t n
-unfolding clamped
-clamp_thin p t n h l = sym (ap (λ (b : Bool). clamped b t n) h ∙ ap (λ (b : Bool). cond b t (n / 2)) (lt-ltb t (n / 2) l))
-
-pub clamp_half : (p : Bool) (t n : ℕ) → p ≡ false → n / 2 ≤ t → n / 2 ≡ clamped p t n
-unfolding clamped
-clamp_half p t n h l = sym (ap (λ (b : Bool). clamped b t n) h ∙ ap (λ (b : Bool). cond b t (n / 2)) (le-ltb t (n / 2) l))
 
 -- no wall, or some
 module _ (r : Record) (a : LossyAbsorber) (m : List Float) (tx ty tz : ℕ) (x : tx ≡ thick_x r a.thickness) (y : ty ≡ thick_y r a.thickness) (z : tz ≡ thick_z r a.thickness) where

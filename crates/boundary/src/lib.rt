@@ -1,5 +1,5 @@
 // The graded conductivity of walls that absorb; the calls that set walls are in `walling`.
-#![tactic(auto)]
+#![tactic(auto, using(std::proofs::lemmas::Bool::Decides::nat_tests), unfolding(crate::specs::Lossy::clamped, crate::specs::Lossy::wall_sigma, crate::specs::Lossy::strongest))]
 
 pub mod lossy;
 

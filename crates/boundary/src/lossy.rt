@@ -59,10 +59,7 @@ fn strongest_of(x0: f64, x1: f64, y0: f64, y1: f64, z0: f64, z1: f64) -> f64
 fn clamp(periodic: bool, thickness: usize, n: usize) -> usize
     ensures { result ≡ clamped periodic thickness n }
 {
-    if periodic {
-        return 0;
-    }
-    if thickness < n / 2 { thickness } else { n / 2 }
+    if periodic { 0 } else { thickness.min(n / 2) }
 }
 
 // One wall's conductivity by the distance from it, n distances from at on.
@@ -70,10 +67,8 @@ fn fill_wall(walls: &mut [f64], at: usize, n: usize, t: usize, a: LossyAbsorber)
     requires { at + n ≤ length walls.old }
     ensures { walls.new ≡ put walls.old at (row n (wall_sigma t a.order a.sigma_max)) }
 {
-    let mut d = 0;
-    while d < n {
+    for d in 0..n {
         walls[at + d] = wall_sigma(t, a.order, a.sigma_max, d);
-        d += 1;
     }
 }
 
@@ -91,10 +86,8 @@ fn lossy_row(
     requires { (at + nx ≤ length media.old) × (nx ≤ length walls.now) }
     ensures { media.new ≡ put media.old at (row nx (λ i. strongest (slice_index_or walls.now i nan) (slice_index_or walls.now (nx - 1 - i) nan) y0 y1 z0 z1)) }
 {
-    let mut i = 0;
-    while i < nx {
+    for i in 0..nx {
         media[at + i] = strongest_of(walls[i], walls[nx - 1 - i], y0, y1, z0, z1);
-        i += 1;
     }
 }
 
@@ -103,8 +96,7 @@ fn lossy_plane(media: &mut [f64], at: usize, nx: usize, ny: usize, walls: &[f64]
     requires { (at + ny * nx ≤ length media.old) × (nx + ny ≤ length walls.now) }
     ensures { media.new ≡ put media.old at (joined ny (λ j. row nx (λ i. strongest (slice_index_or walls.now i nan) (slice_index_or walls.now (nx - 1 - i) nan) (slice_index_or walls.now (nx + j) nan) (slice_index_or walls.now (nx + (ny - 1 - j)) nan) z0 z1))) }
 {
-    let mut j = 0;
-    while j < ny {
+    for j in 0..ny {
         lossy_row(
             media,
             at + j * nx,
@@ -115,7 +107,6 @@ fn lossy_plane(media: &mut [f64], at: usize, nx: usize, ny: usize, walls: &[f64]
             z0,
             z1,
         );
-        j += 1;
     }
 }
 
@@ -126,8 +117,7 @@ fn lossy_cells(media: &mut [f64], at: usize, nx: usize, ny: usize, nz: usize, wa
 {
     let plane = ny * nx;
     let z = nx + ny;
-    let mut k = 0;
-    while k < nz {
+    for k in 0..nz {
         lossy_plane(
             media,
             at + k * plane,
@@ -137,7 +127,6 @@ fn lossy_cells(media: &mut [f64], at: usize, nx: usize, ny: usize, nz: usize, wa
             walls[z + k],
             walls[z + (nz - 1 - k)],
         );
-        k += 1;
     }
 }
 

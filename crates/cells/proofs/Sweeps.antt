@@ -1,6 +1,6 @@
 -- A loop that does F c to block c of a part of a store, for c from a on, is `in_blocks`: before the first turn, one turn more, at its end. For any element type.
 -- Assumes nothing.
-use Prim.Native.Nat.{ℕ, zero, suc, ◌+◌, ◌*◌, ◌≤◌, ◌<◌}
+use Prim.Native.Nat.{ℕ, zero, suc, ◌+◌, ◌*◌, ◌≤◌, ◌<◌, min, max}
 use native.Mathlib.Nat.{suc-mul, zero-mul, mul-one}
 use native.Mathlib.Omega.{arith}
 use mathlib.Core.Path.{◌≡◌, refl, sym, ap, ◌∙◌}
@@ -9,12 +9,12 @@ use mathlib.Core.List.{List, [], ◌∷◌, ◌++◌}
 use lib.Dec.{leb, ltb}
 use lib.ListN.{length, take, drop, set, length-drop, take-append-drop}
 use lib.Seq.{take-add, take_all, length-take-le}
-use borrow.Author.Tests.{lt-ltb, le-ltb, le-leb, lt-leb, ltb-true, ltb-false, leb-true}
+use borrow.Author.Tests.{lt-ltb, le-ltb, le-leb, ltb-true, ltb-false, leb-true}
 use Rattle.codec.specs.Lists.{put, part}
 use Rattle.codec.proofs.Lists.{put_length, part_length, put_one}
 use Rattle.cells.specs.Cells.{joined}
 use Rattle.cells.specs.Reading.{length_joined, block_end}
-use Rattle.cells.specs.Inner.Blocks.{on, in_blocks, Ends, set_row}
+use Rattle.cells.specs.Inner.Blocks.{on, in_blocks, set_row}
 use Rattle.cells.specs.Box.{within}
 use Rattle.cells.proofs.Blocks.{joined_same, on_block_lem, on_within}
 
@@ -116,24 +116,17 @@ module _ {A : Type 0} (at n m a : ℕ) (F : ℕ → List A → List A) (keeps : 
   sweep_end c e h = ap (put s at) (joined_same n _ _ (λ b k. rw (h b k)))
 
 -- ---- where a loop ends
-within_low : (a e b : ℕ) → e ≤ a → within a e b ≡ false
-within_low a e b h = go (leb a b) refl
+-- a loop from a, over the numbers below both e and n, ends where one from a up to e would, but for what no block is
+pub cut_same : (a e n i : ℕ) → i ≡ max a (min e n) → (b : ℕ) → b < n → within a i b ≡ within a e b
+cut_same a e n i q b h = from (leb a b) refl
   where
-    go : (t : Bool) → leb a b ≡ t → (t && ltb b e) ≡ false
-    go true p = let k : a ≤ b = leb-true a b p in le-ltb b e (omega arith)
-    go false p = refl
+    below : (t : Bool) → ltb b e ≡ t → a ≤ b → ltb b i ≡ ltb b e
+    below true p l = let k : b < e = ltb-true b e p in rw p (lt-ltb b i (omega arith))
+    below false p l = let k : e ≤ b = ltb-false b e p in rw p (le-ltb b i (omega arith))
 
-pub ends_at_end : (a e n : ℕ) → e < n → a < e → Ends a e n e
-ends_at_end a e n h k = record { from = omega arith; top = λ _. omega arith; same = λ b l. refl }
-
-pub ends_empty : (a e n : ℕ) → e ≤ a → Ends a e n a
-ends_empty a e n h = record { from = omega arith; top = λ l. absurd (omega arith); same = λ b l. within_low a a b (omega arith) ∙ sym (within_low a e b h) }
-
-pub ends_cut : (a e n : ℕ) → n ≤ e → a < n → Ends a e n n
-ends_cut a e n h k = record { from = omega arith; top = λ _. omega arith; same = λ b l. ap (λ (t : Bool). leb a b && t) (lt-ltb b n l ∙ sym (lt-ltb b e (omega arith))) }
-
-pub ends_past : (a e n : ℕ) → n ≤ e → n ≤ a → Ends a e n a
-ends_past a e n h k = record { from = omega arith; top = λ l. absurd (omega arith); same = λ b l. within_low a a b (omega arith) ∙ sym (ap (λ (t : Bool). t && ltb b e) (lt-leb a b (omega arith))) }
+    from : (t : Bool) → leb a b ≡ t → (t && ltb b i) ≡ (t && ltb b e)
+    from true p = below (ltb b e) refl (leb-true a b p)
+    from false p = refl
 
 -- ---- a row, cell by cell
 set_on : {A : Type 0} (s : List A) (p : ℕ) (v : A) → p < length s → set s p v ≡ on p 1 (λ (_ : List A). v ∷ []) s

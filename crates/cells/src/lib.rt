@@ -1,10 +1,10 @@
-// A box of cells of one store set to one value, f64 and u32. The proofs of both cite the same laws, over the element type.
+// A box of cells of one store set to one value, of any type.
 #![tactic(auto)]
 
 ghost use Rattle.std.specs.Prelude.{◌≡◌, ◌+◌, ◌*◌, ◌≤◌, min, length};
 ghost use Rattle.cells.specs.Box.{box_cells};
 ghost use Rattle.cells.specs.Counted.{cut};
-ghost use Rattle.cells.specs.Inner.Blocks.{Ends, on, set_row, set_plane, set_box};
+ghost use Rattle.cells.specs.Inner.Blocks.{on, set_row, set_plane, set_box};
 // Cells by half-open ranges of indices: i0 up to i1, and so on.
 #[derive(Clone, Copy)]
 pub struct IndexBox {
@@ -16,107 +16,41 @@ pub struct IndexBox {
     pub k1: usize,
 }
 
-// Where a loop from a ends that goes over the numbers below both e and n: at a itself where there are none.
-fn span_end(a: usize, e: usize, n: usize) -> usize
-    ensures { Ends a e n result }
-{
-    if e < n {
-        if a < e { e } else { a }
-    } else {
-        if a < n { n } else { a }
-    }
-}
-
-fn fill_row(s: &mut [f64], at: usize, nx: usize, i0: usize, i1: usize, v: f64)
+fn fill_row<T: Copy>(s: &mut [T], at: usize, nx: usize, i0: usize, i1: usize, v: T)
     requires { at + nx ≤ length s.old }
     ensures { s.new ≡ on at nx (set_row nx i0 i1 v) s.old }
 {
-    let end = span_end(i0, i1, nx);
-    let mut i = i0;
-    while i < end {
+    for i in i0..i1.min(nx) {
         s[at + i] = v;
-        i += 1;
     }
 }
 
-fn fill_plane(s: &mut [f64], at: usize, nx: usize, ny: usize, b: IndexBox, v: f64)
+fn fill_plane<T: Copy>(s: &mut [T], at: usize, nx: usize, ny: usize, b: IndexBox, v: T)
     requires { at + ny * nx ≤ length s.old }
     ensures { s.new ≡ on at (ny * nx) (set_plane nx ny b v) s.old }
 {
-    let end = span_end(b.j0, b.j1, ny);
-    let mut j = b.j0;
-    while j < end {
+    for j in b.j0..b.j1.min(ny) {
         fill_row(s, at + j * nx, nx, b.i0, b.i1, v);
-        j += 1;
     }
 }
 
-pub fn fill_box(s: &mut [f64], at: usize, nx: usize, ny: usize, nz: usize, b: IndexBox, v: f64)
+pub fn fill_box<T: Copy>(s: &mut [T], at: usize, nx: usize, ny: usize, nz: usize, b: IndexBox, v: T)
     requires { (at + nz * (ny * nx) ≤ length s.old) × (ny * nx ≤ 262144) }
     ensures { s.new ≡ on at (nz * (ny * nx)) (set_box nx ny nz b v) s.old }
 {
     let plane = ny * nx;
-    let end = span_end(b.k0, b.k1, nz);
-    let mut k = b.k0;
-    while k < end {
+    for k in b.k0..b.k1.min(nz) {
         fill_plane(s, at + k * plane, nx, ny, b, v);
-        k += 1;
-    }
-}
-
-// ---- the same of ids
-
-fn fill_row_ids(s: &mut [u32], at: usize, nx: usize, i0: usize, i1: usize, v: u32)
-    requires { at + nx ≤ length s.old }
-    ensures { s.new ≡ on at nx (set_row nx i0 i1 v) s.old }
-{
-    let end = span_end(i0, i1, nx);
-    let mut i = i0;
-    while i < end {
-        s[at + i] = v;
-        i += 1;
-    }
-}
-
-fn fill_plane_ids(s: &mut [u32], at: usize, nx: usize, ny: usize, b: IndexBox, v: u32)
-    requires { at + ny * nx ≤ length s.old }
-    ensures { s.new ≡ on at (ny * nx) (set_plane nx ny b v) s.old }
-{
-    let end = span_end(b.j0, b.j1, ny);
-    let mut j = b.j0;
-    while j < end {
-        fill_row_ids(s, at + j * nx, nx, b.i0, b.i1, v);
-        j += 1;
-    }
-}
-
-pub fn fill_box_ids(s: &mut [u32], at: usize, nx: usize, ny: usize, nz: usize, b: IndexBox, v: u32)
-    requires { (at + nz * (ny * nx) ≤ length s.old) × (ny * nx ≤ 262144) }
-    ensures { s.new ≡ on at (nz * (ny * nx)) (set_box nx ny nz b v) s.old }
-{
-    let plane = ny * nx;
-    let end = span_end(b.k0, b.k1, nz);
-    let mut k = b.k0;
-    while k < end {
-        fill_plane_ids(s, at + k * plane, nx, ny, b, v);
-        k += 1;
     }
 }
 
 // ---- how many cells a box has
 
-fn lesser(a: usize, b: usize) -> usize
-    ensures { result ≡ min a b }
-{
-    if a < b { a } else { b }
-}
-
 // Of the numbers from a up to e, those below n. They are cut before anything is multiplied, so that nothing wraps.
 fn cut_to(a: usize, e: usize, n: usize) -> usize
     ensures { (result ≡ cut a e n) × (result ≤ n) }
 {
-    let end = lesser(e, n);
-    if a < end { end - a } else { 0 }
+    e.min(n).saturating_sub(a)
 }
 
 fn times(a: usize, b: usize, m: usize, n: usize) -> usize

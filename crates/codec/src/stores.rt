@@ -1,20 +1,85 @@
 // A whole store at its place among the bytes, one element after another. A store of floats is judged before it is read.
 
-ghost use Rattle.std.specs.Prelude.{◌≡◌, true, ◌+◌, ◌*◌, ◌≤◌, length, drop};
-ghost use Rattle.codec.specs.Lists.{put};
-ghost use Rattle.codec.specs.Bytes.{floats_bytes, floats_of, fine, all_fine, ids_bytes, ids_of};
+ghost use Rattle.std.specs.Prelude.{◌≡◌, ℕ, true, ◌+◌, ◌*◌, ◌≤◌, length, drop};
+ghost use Rattle.std.specs.Float.{binary64};
+ghost use Rattle.std.specs.Float.Ieee.{of_bits};
+ghost use Rattle.codec.specs.Lists.{put, part};
+ghost use Rattle.codec.specs.Bytes.{le, unle, bits, bytes_of, elements_of, fine, all_fine};
 
 use super::floats::{float_of, is_fine, put_f64};
 use super::numbers::{get_u32, get_u64, put_u32};
 
-pub fn put_f64s(out: &mut [u8], at: usize, xs: &[f64])
-    requires { at + 8 * length xs.now ≤ length out.old }
-    ensures { out.new ≡ put out.old at (floats_bytes xs.now) }
+// What a store holds: the number that is written for it, and what is read where that number stands.
+pub trait Element: Copy {
+    const WIDTH: usize;
+
+    ghost WIDTH: { ℕ };
+
+    ghost number: { Self → ℕ };
+
+    ghost element: { ℕ → Self };
+
+    fn put(self, out: &mut [u8], at: usize)
+        requires { at + WIDTH ≤ length out.old }
+        ensures { out.new ≡ put out.old at (le WIDTH (number self)) };
+
+    fn get(s: &[u8], at: usize) -> Self
+        requires { at + WIDTH ≤ length s.now }
+        ensures { result ≡ element (unle (part s.now at WIDTH)) };
+}
+
+impl Element for f64 {
+    const WIDTH: usize = 8;
+
+    ghost WIDTH = { 8 };
+
+    ghost number = { bits };
+
+    ghost element = { of_bits binary64 };
+
+    fn put(self, out: &mut [u8], at: usize) {
+        put_f64(out, at, self);
+    }
+
+    fn get(s: &[u8], at: usize) -> f64 {
+        float_of(get_u64(s, at))
+    }
+}
+
+// A cell's id.
+impl Element for u32 {
+    const WIDTH: usize = 4;
+
+    ghost WIDTH = { 4 };
+
+    ghost number = { λ n. n };
+
+    ghost element = { λ n. n };
+
+    fn put(self, out: &mut [u8], at: usize) {
+        put_u32(out, at, self);
+    }
+
+    fn get(s: &[u8], at: usize) -> u32 {
+        get_u32(s, at)
+    }
+}
+
+pub fn put_all<T: Element>(out: &mut [u8], at: usize, xs: &[T])
+    requires { at + T.WIDTH * length xs.now ≤ length out.old }
+    ensures { out.new ≡ put out.old at (bytes_of T.WIDTH T.number xs.now) }
 {
-    let mut i = 0;
-    while i < xs.len() {
-        put_f64(out, at + 8 * i, xs[i]);
-        i += 1;
+    for i in 0..xs.len() {
+        xs[i].put(out, at + T::WIDTH * i);
+    }
+}
+
+pub fn get_all<T: Element>(s: &[u8], at: usize, xs: &mut [T])
+    requires { at + T.WIDTH * length xs.old ≤ length s.now }
+    ensures { xs.new ≡ elements_of T.WIDTH T.element (length xs.old) (drop at s.now) }
+{
+    for i in 0..xs.len() {
+        xs[i] = T::get(s, at + T::WIDTH * i);
     }
 }
 
@@ -31,10 +96,8 @@ fn no_nan(s: &[u8], at: usize, n: usize) -> bool
     ensures { result ≡ true → all_fine n (drop at s.now) ≡ true }
 {
     let mut nans: u64 = 0;
-    let mut i = 0;
-    while i < n {
+    for i in 0..n {
         nans += nan_bit(get_u64(s, at + 8 * i));
-        i += 1;
     }
     nans == 0
 }
@@ -43,12 +106,10 @@ fn check_each(s: &[u8], at: usize, n: usize) -> bool
     requires { at + 8 * n ≤ length s.now }
     ensures { result ≡ all_fine n (drop at s.now) }
 {
-    let mut i = 0;
-    while i < n {
+    for i in 0..n {
         if !is_fine(get_u64(s, at + 8 * i)) {
             return false;
         }
-        i += 1;
     }
     true
 }
@@ -58,41 +119,5 @@ pub fn check_f64s(s: &[u8], at: usize, n: usize) -> bool
     requires { at + 8 * n ≤ length s.now }
     ensures { result ≡ all_fine n (drop at s.now) }
 {
-    if no_nan(s, at, n) {
-        return true;
-    }
-    check_each(s, at, n)
-}
-
-pub fn get_f64s(s: &[u8], at: usize, xs: &mut [f64])
-    requires { at + 8 * length xs.old ≤ length s.now }
-    ensures { xs.new ≡ floats_of (length xs.old) (drop at s.now) }
-{
-    let mut i = 0;
-    while i < xs.len() {
-        xs[i] = float_of(get_u64(s, at + 8 * i));
-        i += 1;
-    }
-}
-
-pub fn put_u32s(out: &mut [u8], at: usize, ns: &[u32])
-    requires { at + 4 * length ns.now ≤ length out.old }
-    ensures { out.new ≡ put out.old at (ids_bytes ns.now) }
-{
-    let mut i = 0;
-    while i < ns.len() {
-        put_u32(out, at + 4 * i, ns[i]);
-        i += 1;
-    }
-}
-
-pub fn get_u32s(s: &[u8], at: usize, ns: &mut [u32])
-    requires { at + 4 * length ns.old ≤ length s.now }
-    ensures { ns.new ≡ ids_of (length ns.old) (drop at s.now) }
-{
-    let mut i = 0;
-    while i < ns.len() {
-        ns[i] = get_u32(s, at + 4 * i);
-        i += 1;
-    }
+    no_nan(s, at, n) || check_each(s, at, n)
 }

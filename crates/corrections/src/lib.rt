@@ -65,12 +65,8 @@ fn add_row(w: Corrected, f: Face, media: &[f64], x: f64, p: usize, s: &mut [f64]
     requires { FaceFits w f media.now s.old × (p + w.nx ≤ w.n) × (q + w.nx ≤ length s.old) }
     ensures { s.new ≡ on q w.nx (add_row w.nx f.b.i0 f.b.i1 (λ i. addend w f media.now x (p + i))) s.old }
 {
-    let b = f.b;
-    let end = b.i1;
-    let mut i = b.i0;
-    while i < end {
+    for i in f.b.i0..f.b.i1 {
         s[q + i] = s[q + i] + addend(w, f, media, x, p + i);
-        i += 1;
     }
 }
 
@@ -78,13 +74,8 @@ fn add_plane(w: Corrected, f: Face, media: &[f64], x: f64, p: usize, s: &mut [f6
     requires { FaceFits w f media.now s.old × (p + w.ny * w.nx ≤ w.n) × (q + w.ny * w.nx ≤ length s.old) }
     ensures { s.new ≡ on q (w.ny * w.nx) (add_plane w.nx w.ny f.b (λ i j. addend w f media.now x (p + j * w.nx + i))) s.old }
 {
-    let b = f.b;
-    let nx = w.nx;
-    let end = b.j1;
-    let mut j = b.j0;
-    while j < end {
-        add_row(w, f, media, x, p + j * nx, s, q + j * nx);
-        j += 1;
+    for j in f.b.j0..f.b.j1 {
+        add_row(w, f, media, x, p + j * w.nx, s, q + j * w.nx);
     }
 }
 
@@ -92,26 +83,18 @@ fn add_box(w: Corrected, f: Face, media: &[f64], line: &[f64], s: &mut [f64])
     requires { FaceFits w f media.now s.old × (w.incident + f.offset + w.nz ≤ length line.now) }
     ensures { s.new ≡ on (f.component * w.n) (w.nz * (w.ny * w.nx)) (add_box w.nx w.ny w.nz f.b (addends w f media.now line.now)) s.old }
 {
-    let b = f.b;
     let plane = w.ny * w.nx;
-    let component = f.component;
-    let n = w.n;
-    let at = component * n;
-    let incident = w.incident;
-    let offset = f.offset;
-    let end = b.k1;
-    let mut k = b.k0;
-    while k < end {
+    let at = f.component * w.n;
+    for k in f.b.k0..f.b.k1 {
         add_plane(
             w,
             f,
             media,
-            line[incident + offset + k],
+            line[w.incident + f.offset + k],
             k * plane,
             s,
             at + k * plane,
         );
-        k += 1;
     }
 }
 

@@ -1,5 +1,6 @@
 -- `set_boundary` with the absorbing layer: which axes are active, and what the tables then hold (cpml.rs, `Cpml::new`; document 01, 5). Definitions only.
-use Rattle.std.specs.Prelude.{ℕ, ◌+◌, ◌*◌, Bool, true, false, not, cond, ◌&&◌, List, [], ◌∷◌, ◌++◌, leb, eqb, length, get_or, Float}
+use Rattle.std.specs.Prelude.{ℕ, ◌+◌, ◌*◌, Bool, true, false, not, cond, ◌&&◌, List, [], ◌∷◌, ◌++◌, leb, eqb, length, get_or, Float, Result, Ok, Err}
+use Rattle.refusals.specs.declared.Refusal.{Refusal}
 use Rattle.codec.specs.Lists.{part}
 use Rattle.grid.specs.declared.Record.{Record}
 use Rattle.grid.specs.Edited.{with_walls}
@@ -46,6 +47,11 @@ absorbed a s = record { axes = a; stores = s }
 
 abbrev pub no_axis : List Bool
 no_axis = false ∷ false ∷ false ∷ []
+
+-- the axes on which the layer absorbs after a call; refused, none
+abbrev pub active_in : Result Record Refusal → List Bool
+active_in (Ok r) = r.active
+active_in (Err f) = no_axis
 
 -- the answer names the active axes; refused, none
 unfoldable pub set_cpml_call : Record → List Bool → ℕ → List Float → Layer → Outcome Absorbed

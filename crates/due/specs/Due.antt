@@ -1,4 +1,6 @@
 -- When a step is refused, and the clock after one. Definitions only.
+use Rattle.refusals.specs.declared.Refusal.TheVariants.{StaleMaterial, SpentClock}
+use Rattle.refusals.specs.Refusals.{number}
 use Rattle.std.specs.Prelude.{ℕ, ◌+◌, Bool, ◌||◌, List, leb, ltb, eqb}
 use Rattle.root.specs.Rounded.{◌⊕◌}
 use Rattle.codec.specs.Lists.{every}
@@ -10,10 +12,10 @@ use Rattle.grid.specs.Stores.{or_else, fault_with}
 
 -- ---- the refusals
 abbrev pub stale_material : ℕ
-stale_material = 8
+stale_material = number StaleMaterial
 
 abbrev pub spent_clock : ℕ
-spent_clock = 11
+spent_clock = number SpentClock
 
 abbrev pub last_step : ℕ
 last_step = 4294967295

@@ -205,14 +205,10 @@ fn sweep(
     requires scr_len { (length scr.old ≡ 2560) × (g.count + g.count + g.count ≤ length media.now) }
     ensures { Swept eps0 w g h.now media.now tab.now poles.now e.old mem.old (g.t.n * g.s.n) e.new mem.new }
 {
-    let mut t = 0usize;
-    while t < g.t.n {
-        let mut s = 0usize;
-        while s < g.s.n {
+    for t in 0..g.t.n {
+        for s in 0..g.s.n {
             line(e, mem, scr, h, media, tab, poles, eps0, w, g, run, s, t);
-            s += 1usize;
         }
-        t += 1usize;
     }
 }
 

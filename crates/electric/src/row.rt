@@ -27,12 +27,10 @@ pub fn factors(scr: &mut [f64], media: &[f64], m: usize, s: usize, n: usize, eps
     requires n_in_bounds { (m + n ≤ length media.now) × (s + n ≤ length media.now) }
     ensures { Two (λ i. ca eps0 dt (get_or media.now (m + i) nan) (get_or media.now (s + i) nan)) (λ i. cb eps0 dt (get_or media.now (m + i) nan) (get_or media.now (s + i) nan)) scr.old 1536 2048 0 n scr.new }
 {
-    let mut i = 0usize;
-    while i < n {
+    for i in 0..n {
         let f = update::weights_of(eps0, dt, rows::at(media, m, i), rows::at(media, s, i));
         scr[1536 + i] = f.ca;
         scr[2048 + i] = f.cb;
-        i += 1usize;
     }
 }
 
@@ -82,8 +80,7 @@ fn plain(e: &mut [f64], scr: &[f64], q: usize, a: usize, z: usize, term: f64)
     requires { (a ≤ z) × (q + z ≤ length e.old) × (2048 + z ≤ length scr.now) }
     ensures { Span (λ i. (get_or scr.now (1536 + i) nan ⊗ get_or e.old (q + i) nan ⊕ get_or scr.now (1024 + i) nan ⊖ term) ⊘ get_or scr.now (2048 + i) nan) e.old q a z e.new }
 {
-    let mut i = a;
-    while i < z {
+    for i in a..z {
         e[q + i] = update::electric_value(
             rows::at(scr, 1536, i),
             e[q + i],
@@ -91,7 +88,6 @@ fn plain(e: &mut [f64], scr: &[f64], q: usize, a: usize, z: usize, term: f64)
             term,
             rows::at(scr, 2048, i),
         );
-        i += 1usize;
     }
 }
 
@@ -109,8 +105,7 @@ fn dispersed(
     requires { (a ≤ z) × (q + z ≤ length e.old) × (2048 + z ≤ length scr.now) × (d + z ≤ length poles.now) }
     ensures { Span (λ i. (get_or scr.now (1536 + i) nan ⊗ get_or e.old (q + i) nan ⊕ get_or scr.now (1024 + i) nan ⊖ get_or poles.now (d + i) nan ⊘ dt) ⊘ get_or scr.now (2048 + i) nan) e.old q a z e.new }
 {
-    let mut i = a;
-    while i < z {
+    for i in a..z {
         e[q + i] = update::electric_value(
             rows::at(scr, 1536, i),
             e[q + i],
@@ -118,7 +113,6 @@ fn dispersed(
             rows::at(poles, d, i) / dt,
             rows::at(scr, 2048, i),
         );
-        i += 1usize;
     }
 }
 

@@ -130,10 +130,8 @@ fn cells_of_row(
     let gos = free_at(g.s, s);
     let got = free_at(g.t, t);
     let v = single::find_shared(tab, g, s, t, bs, bt, gos, got);
-    let mut i = 0usize;
-    while i < g.r.n {
+    for i in 0..g.r.n {
         cell(e, mem, h, media, tab, poles, eps0, w, none, g, v, s, t, i);
-        i += 1usize;
     }
 }
 
@@ -156,13 +154,9 @@ pub fn sweep_cells(
     ensures { Swept eps0 w g h.now media.now tab.now poles.now e.old mem.old (g.t.n * g.s.n) e.new mem.new }
 {
     let none = 0.0 / w.dt;
-    let mut t = 0usize;
-    while t < g.t.n {
-        let mut s = 0usize;
-        while s < g.s.n {
+    for t in 0..g.t.n {
+        for s in 0..g.s.n {
             cells_of_row(e, mem, h, media, tab, poles, eps0, w, none, g, s, t);
-            s += 1usize;
         }
-        t += 1usize;
     }
 }

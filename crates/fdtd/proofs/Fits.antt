@@ -29,14 +29,50 @@ module _ (r : Record) (from : ℕ) (low : from ≤ 3) (sound : Sound r) where
   tab_z : from * r.nz ≤ 3 * r.nz
   tab_z = mul-le-mul_right r.nz low
 
+  laid_x : Laid (turn_x r from)
+  laid_x =
+      record {
+        whole = cells_same r.nx r.ny r.nz ∙ sym (mul_assoc r.nz r.ny r.nx);
+        few = sound.cells;
+        sn = sound.ys;
+        tn = sound.zs;
+        rs = inl (omega arith, omega arith);
+        rt = inl (omega arith, omega arith);
+        st = inl (omega arith, omega arith);
+      }
+
+  laid_y : Laid (turn_y r from)
+  laid_y =
+      record {
+        whole = mul_assoc r.nx r.ny r.nz ∙ ap (λ (n : ℕ). r.nx * n) (mul_comm r.ny r.nz) ∙ sym (mul_assoc r.nx r.nz r.ny);
+        few = sound.cells;
+        sn = sound.zs;
+        tn = sound.xs;
+        rs = inl (omega arith, omega arith);
+        rt = inr (omega arith, omega arith);
+        st = inr (omega arith, omega arith);
+      }
+
+  laid_z : Laid (turn_z r from)
+  laid_z =
+      record {
+        whole = ap (λ (n : ℕ). n * r.nz) (mul_comm r.nx r.ny);
+        few = sound.cells;
+        sn = sound.xs;
+        tn = sound.ys;
+        rs = inr (omega arith, omega arith);
+        rt = inr (omega arith, omega arith);
+        st = inl (omega arith, omega arith);
+      }
+
   module _ (e tab m x : List Float) (le : length e ≡ 3 * cells r) (lt : length tab ≡ 6 * (r.nx + r.ny + r.nz)) (lm : length m ≡ 6 * cells r)
       (lx : length x ≡ 3 * cells r) where
     fit_x : Fit (turn_x r from) e tab m x
     fit_x =
         record {
+          laid = laid_x;
           some = sound.x1;
           small = sound.xs;
-          few = sound.cells;
           er = omega arith;
           es = omega arith;
           et = omega arith;
@@ -54,9 +90,9 @@ module _ (r : Record) (from : ℕ) (low : from ≤ 3) (sound : Sound r) where
     fit_y : Fit (turn_y r from) e tab m x
     fit_y =
         record {
+          laid = laid_y;
           some = sound.y1;
           small = sound.ys;
-          few = sound.cells;
           er = fit_x.es;
           es = fit_x.et;
           et = fit_x.er;
@@ -74,9 +110,9 @@ module _ (r : Record) (from : ℕ) (low : from ≤ 3) (sound : Sound r) where
     fit_z : Fit (turn_z r from) e tab m x
     fit_z =
         record {
+          laid = laid_z;
           some = sound.z1;
           small = sound.zs;
-          few = sound.cells;
           er = fit_x.et;
           es = fit_x.er;
           et = fit_x.es;
@@ -98,47 +134,6 @@ module _ (r : Record) (from : ℕ) (low : from ≤ 3) (sound : Sound r) where
 
     pub fit_for : {g : Turn} → g ≡ turn_for r from → Fit g e tab m x
     fit_for p = rw p (fit_case (eqb r.nx 1) (eqb r.ny 1))
-
-  laid_x : Laid (turn_x r from)
-  laid_x =
-      record {
-        whole = cells_same r.nx r.ny r.nz ∙ sym (mul_assoc r.nz r.ny r.nx);
-        sn = sound.ys;
-        tn = sound.zs;
-        rs = inl (omega arith, omega arith);
-        rt = inl (omega arith, omega arith);
-        st = inl (omega arith, omega arith);
-      }
-
-  laid_y : Laid (turn_y r from)
-  laid_y =
-      record {
-        whole = mul_assoc r.nx r.ny r.nz ∙ ap (λ (n : ℕ). r.nx * n) (mul_comm r.ny r.nz) ∙ sym (mul_assoc r.nx r.nz r.ny);
-        sn = sound.zs;
-        tn = sound.xs;
-        rs = inl (omega arith, omega arith);
-        rt = inr (omega arith, omega arith);
-        st = inr (omega arith, omega arith);
-      }
-
-  laid_z : Laid (turn_z r from)
-  laid_z =
-      record {
-        whole = ap (λ (n : ℕ). n * r.nz) (mul_comm r.nx r.ny);
-        sn = sound.xs;
-        tn = sound.ys;
-        rs = inr (omega arith, omega arith);
-        rt = inr (omega arith, omega arith);
-        st = inl (omega arith, omega arith);
-      }
-
-  laid_case : (a b : Bool) → Laid (cond a (cond b (turn_z r from) (turn_y r from)) (turn_x r from))
-  laid_case true true = laid_z
-  laid_case true false = laid_y
-  laid_case false b = laid_x
-
-  pub laid_for : {g : Turn} → g ≡ turn_for r from → Laid g
-  laid_for p = rw p (laid_case (eqb r.nx 1) (eqb r.ny 1))
 
 count_case : (r : Record) (from : ℕ) (a b : Bool) → (cond a (cond b (turn_z r from) (turn_y r from)) (turn_x r from)).count ≡ cells r
 count_case r from true true = refl

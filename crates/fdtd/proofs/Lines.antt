@@ -120,9 +120,9 @@ done_as {g} {R} {S} {T} {x₀} {m₀} {x} {m} w p = subst (λ (k : ℕ). Done g 
 pub fit_as : {g : Turn} {e tab m x : List Float} (m' x' : List Float) → Fit g e tab m x → length m' ≡ length m → length x' ≡ length x → Fit g e tab m' x'
 fit_as m' x' f em ex =
     record {
+      laid = f.laid;
       some = f.some;
       small = f.small;
-      few = f.few;
       er = f.er;
       es = f.es;
       et = f.et;

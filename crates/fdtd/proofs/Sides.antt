@@ -2,7 +2,7 @@
 use mathlib.Core.Path.{◌≡◌, refl, ◌∙◌, sym, ap}
 use mathlib.Core.Bool.{Bool, true, false, cond}
 use mathlib.Core.List.{List}
-use Prim.Native.Nat.{ℕ, ◌+◌, ◌≤◌}
+use Prim.Native.Nat.{ℕ, ◌+◌}
 use native.Mathlib.Omega.{arith}
 use lib.ListN.{get_or}
 use lib.Ieee.{Float, nan, eq}
@@ -60,39 +60,38 @@ module _ (s : Side) (tab mem : List Float) (i : ℕ) (d : Float) where
   mem_own mem' p ed = rw (p, ed)
 
 -- the layer in three parts
-module _ (second : Bool) (s : Side) (tab mem scr m1 m2 s1 s2 s3 : List Float) (o f z : ℕ) (on : s.on ≡ true) (calm : Calm s tab f z) (low : o + z ≤ 1024)
-    (a : Span (λ i. layered second (k_of s tab i) (get_or mem (s.mem + i) nan) (get_or scr (o + i) nan) (get_or scr (1024 + i) nan)) scr 1024 f s.lo s1)
-    (am : Span (λ i. mem_next (k_of s tab i) (get_or mem (s.mem + i) nan) (get_or scr (o + i) nan)) mem s.mem f s.lo m1)
-    (b : Span (λ i. joins second (get_or s1 (1024 + i) nan) zero_f ((one_f ⊖ (k_of s tab i).kinv) ⊗ get_or s1 (o + i) nan)) s1 1024 s.lo s.hi s2)
-    (y : Span (λ i. layered second (k_of s tab i) (get_or m1 (s.mem + i) nan) (get_or s2 (o + i) nan) (get_or s2 (1024 + i) nan)) s2 1024 s.hi z s3)
-    (ym : Span (λ i. mem_next (k_of s tab i) (get_or m1 (s.mem + i) nan) (get_or s2 (o + i) nan)) m1 s.mem s.hi z m2) where
+module _ (second : Bool) (s : Side) (tab mem d c0 m1 m2 c1 c2 c3 : List Float) (f z : ℕ) (on : s.on ≡ true) (calm : Calm s tab f z)
+    (a : Span (λ i. layered second (k_of s tab i) (get_or mem (s.mem + i) nan) (get_or d i nan) (get_or c0 i nan)) c0 0 f s.lo c1)
+    (am : Span (λ i. mem_next (k_of s tab i) (get_or mem (s.mem + i) nan) (get_or d i nan)) mem s.mem f s.lo m1)
+    (b : Span (λ i. joins second (get_or c1 i nan) zero_f ((one_f ⊖ (k_of s tab i).kinv) ⊗ get_or d i nan)) c1 0 s.lo s.hi c2)
+    (y : Span (λ i. layered second (k_of s tab i) (get_or m1 (s.mem + i) nan) (get_or d i nan) (get_or c2 i nan)) c2 0 s.hi z c3)
+    (ym : Span (λ i. mem_next (k_of s tab i) (get_or m1 (s.mem + i) nan) (get_or d i nan)) m1 s.mem s.hi z m2) where
   lay : ℕ → Float
-  lay i = side_layered second s tab mem i (get_or scr (o + i) nan) (get_or scr (1024 + i) nan)
+  lay i = side_layered second s tab mem i (get_or d i nan) (get_or c0 i nan)
 
   kept : ℕ → Float
-  kept i = side_memory s tab mem i (get_or scr (o + i) nan)
+  kept i = side_memory s tab mem i (get_or d i nan)
 
-  two : Span lay scr 1024 f s.hi s2
+  two : Span lay c0 0 f s.hi c2
   unfolding lay
   two =
       span_join _ _ _ _ (span_as _ _ _ _ a (λ i g h. lay_on second s tab mem i _ _ on)) b calm.from calm.order
-      (λ i g h. rw (a.over (1024 + i) (omega arith), a.under (o + i) (omega (arith, calm.upto))) (lay_quiet second s tab mem i _ _ on (calm.quiet i g h)))
+      (λ i g h. rw (a.over i (omega arith)) (lay_quiet second s tab mem i _ _ on (calm.quiet i g h)))
 
   two_mem : Span kept mem s.mem f s.hi m1
   unfolding kept
   two_mem =
       span_more _ _ _ _ (span_as _ _ _ _ am (λ i g h. mem_on s tab mem i _ on)) calm.from calm.order (λ i g h. mem_quiet s tab mem i _ on (calm.quiet i g h))
 
-  pub layer_scr : Span (λ i. side_layered second s tab mem i (get_or scr (o + i) nan) (get_or scr (1024 + i) nan)) scr 1024 f z s3
+  pub layer_curl : Span (λ i. side_layered second s tab mem i (get_or d i nan) (get_or c0 i nan)) c0 0 f z c3
   unfolding lay
-  layer_scr =
+  layer_curl =
       span_join _ _ _ _ two y (omega arith) calm.upto
       (λ i g h.
-      lay_on second s tab m1 i _ _ on
-      ∙ lay_own second s tab mem i _ _ m1 (two_mem.over (s.mem + i) (omega arith)) (two.under (o + i) (omega arith)) (two.over (1024 + i) (omega arith)))
+      lay_on second s tab m1 i _ _ on ∙ lay_own second s tab mem i _ _ m1 (two_mem.over (s.mem + i) (omega arith)) refl (two.over i (omega arith)))
 
-  pub layer_mem : Span (λ i. side_memory s tab mem i (get_or scr (o + i) nan)) mem s.mem f z m2
+  pub layer_mem : Span (λ i. side_memory s tab mem i (get_or d i nan)) mem s.mem f z m2
   unfolding kept
   layer_mem =
       span_join _ _ _ _ two_mem ym (omega arith) calm.upto
-      (λ i g h. mem_on s tab m1 i _ on ∙ mem_own s tab mem i _ m1 (two_mem.over (s.mem + i) (omega arith)) (two.under (o + i) (omega arith)))
+      (λ i g h. mem_on s tab m1 i _ on ∙ mem_own s tab mem i _ m1 (two_mem.over (s.mem + i) (omega arith)) refl)

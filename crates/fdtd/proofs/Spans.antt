@@ -1,9 +1,10 @@
 -- A part of a list that is filled from its front, one store a turn; parts that follow each other. Assumes nothing.
-use mathlib.Core.Path.{◌≡◌, refl, ◌∙◌, subst}
+use mathlib.Core.Path.{◌≡◌, refl, sym, ap, ◌∙◌, subst}
 use mathlib.Core.Logic.{◌⊎◌, inl, inr, ⊎_elim}
 use mathlib.Core.Bool.{Bool, true, false}
 use mathlib.Core.List.{List}
 use Prim.Native.Nat.{ℕ, ◌+◌, ◌≤◌, ◌<◌}
+use native.Mathlib.Nat.{zero-add}
 use native.Mathlib.Omega.{arith}
 use borrow.Author.Count.{below_more}
 use borrow.Author.Tests.{ltb-true, ltb-false}
@@ -65,3 +66,11 @@ module _ (f : ℕ → Float) (old : List Float) (lo a : ℕ) where
         at = λ i m l. ⊎_elim (λ u. s.at i m u) (λ u. s.over (lo + i) (omega arith) ∙ p i u l) (lt_or_ge i y);
         over = λ q l. s.over q (omega arith);
       }
+
+-- a part of a list from its beginning on
+module _ (f : ℕ → Float) (old : List Float) (a : ℕ) where
+  pub first_step : (new : List Float) (i : ℕ) (v : Float) → Span f old 0 a i new → a ≤ i → i < length old → v ≡ f i → Span f old 0 a (i + 1) (set new i v)
+  first_step new i v s g h e = subst (λ (x : ℕ). Span f old 0 a (i + 1) (set new x v)) (zero-add i) (span_step f old 0 a new i v s g (omega arith) e)
+
+  pub first_at : {new : List Float} {i z : ℕ} → Span f old 0 a z new → a ≤ i → i < z → get_or new i nan ≡ f i
+  first_at {new} {i} s g h = ap (λ (x : ℕ). get_or new x nan) (sym (zero-add i)) ∙ s.at i g h

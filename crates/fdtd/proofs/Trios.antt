@@ -1,68 +1,48 @@
 -- Derivatives of both sides, and their difference, cell by cell. Assumes nothing.
-use mathlib.Core.Path.{◌≡◌, refl, ◌∙◌, subst}
-use mathlib.Core.List.{List}
-use Prim.Native.Nat.{ℕ, ◌+◌, ◌-◌, ◌≤◌, ◌<◌}
-use native.Mathlib.Omega.{arith}
-use borrow.Author.Count.{below_more}
-use lib.ListN.{length, get_or, set, length-set}
-use lib.Seq.{get_or-set_same, get_or-set_other}
+use Rattle.std.proofs.Common.{◌≡◌, ℕ, ◌+◌, ◌-◌, ◌≤◌, ◌<◌, length, get_or, set, refl, ap, ◌∙◌, subst, arith}
+use native.Mathlib.Nat.{le_refl}
 use lib.Ieee.{Float, nan}
 use Rattle.root.specs.Rounded.{◌⊖◌}
+use Rattle.fdtd.specs.declared.rows.Scratch.{Scratch}
 use Rattle.fdtd.specs.Yee.{slope}
-use Rattle.fdtd.specs.Inner.Span.{Put, Trio}
+use Rattle.fdtd.specs.Inner.Span.{Trio}
+use Rattle.fdtd.proofs.Spans.{span_start, span_as, span_join, first_step}
+use mathlib.Core.List.{List}
 
-pub put_law : (old : List Float) (i : ℕ) (x y z : Float) → i < 512 → 1536 ≤ length old → z ≡ x ⊖ y → Put x y i old (set (set (set old i x) (512 + i) y) (1024 + i) z)
-put_law old i x y z h l e =
-    let a = set old i x in
-    let b = set a (512 + i) y in
-    record {
-      len = length-set b (1024 + i) z ∙ length-set a (512 + i) y ∙ length-set old i x;
-      one = get_or-set_other b (1024 + i) i z nan (omega arith) ∙ get_or-set_other a (512 + i) i y nan (omega arith) ∙ get_or-set_same old i x nan (omega arith);
-      two = get_or-set_other b (1024 + i) (512 + i) z nan (omega arith) ∙ get_or-set_same a (512 + i) y nan (omega (arith, length-set old i x));
-      three = get_or-set_same b (1024 + i) z nan (omega (arith, length-set old i x, length-set a (512 + i) y)) ∙ e;
-      one_before = λ k g. get_or-set_other b (1024 + i) k z nan (omega arith) ∙ get_or-set_other a (512 + i) k y nan (omega arith) ∙ get_or-set_other old i k x nan (omega arith);
-      two_before = λ k g. get_or-set_other b (1024 + i) (512 + k) z nan (omega arith) ∙ get_or-set_other a (512 + i) (512 + k) y nan (omega arith) ∙ get_or-set_other old i (512 + k) x nan (omega arith);
-      three_before = λ k g. get_or-set_other b (1024 + i) (1024 + k) z nan (omega arith) ∙ get_or-set_other a (512 + i) (1024 + k) y nan (omega arith) ∙ get_or-set_other old i (1024 + k) x nan (omega arith);
-      one_after = λ k g m. get_or-set_other b (1024 + i) k z nan (omega arith) ∙ get_or-set_other a (512 + i) k y nan (omega arith) ∙ get_or-set_other old i k x nan (omega arith);
-      two_after = λ k g m. get_or-set_other b (1024 + i) (512 + k) z nan (omega arith) ∙ get_or-set_other a (512 + i) (512 + k) y nan (omega arith) ∙ get_or-set_other old i (512 + k) x nan (omega arith);
-      three_after = λ k g m. get_or-set_other b (1024 + i) (1024 + k) z nan (omega arith) ∙ get_or-set_other a (512 + i) (1024 + k) y nan (omega arith) ∙ get_or-set_other old i (1024 + k) x nan (omega arith);
-      over = λ q g. get_or-set_other b (1024 + i) q z nan (omega arith) ∙ get_or-set_other a (512 + i) q y nan (omega arith) ∙ get_or-set_other old i q x nan (omega arith);
-    }
+pub put_law : (old : Scratch) (i : ℕ) (x y z : Float) → i < length old.first → i < length old.second → i < length old.curl → z ≡ x ⊖ y
+    → Trio (λ k. x) (λ k. y) old i (i + 1) (record { first = set old.first i x; second = set old.second i y; curl = set old.curl i z })
+put_law old i x y z p q r e = record {
+  one = first_step (λ k. x) old.first i old.first i x (span_start _ _ _ _) (le_refl i) p refl;
+  two = first_step (λ k. y) old.second i old.second i y (span_start _ _ _ _) (le_refl i) q refl;
+  three = first_step (λ k. x ⊖ y) old.curl i old.curl i z (span_start _ _ _ _) (le_refl i) r e;
+}
 
-module _ (f g : ℕ → Float) (old : List Float) (a : ℕ) where
+module _ (f g : ℕ → Float) (old : Scratch) (a : ℕ) where
   pub trio_start : Trio f g old a a old
-  trio_start =
-      record {
-        len = refl;
-        one = λ i h l. absurd (omega arith);
-        two = λ i h l. absurd (omega arith);
-        three = λ i h l. absurd (omega arith);
-        over = λ q h. refl;
-      }
+  trio_start = record { one = span_start _ _ _ _; two = span_start _ _ _ _; three = span_start _ _ _ _ }
 
-  pub trio_step : {new next : List Float} {i : ℕ} {x y : Float} → Trio f g old a i new → Put x y i new next → x ≡ f i → y ≡ g i → Trio f g old a (i + 1) next
-  trio_step {new} {next} {i} {x} {y} w p ex ey =
-      record {
-        len = p.len ∙ w.len;
-        one = λ k h l. below_more (λ k. a ≤ k → get_or next k nan ≡ f k) i (λ k l h. p.one_before k l ∙ w.one k h l) (λ h. p.one ∙ ex) k l h;
-        two = λ k h l. below_more (λ k. a ≤ k → get_or next (512 + k) nan ≡ g k) i (λ k l h. p.two_before k l ∙ w.two k h l) (λ h. p.two ∙ ey) k l h;
-        three = λ k h l.
-            below_more (λ k. a ≤ k → get_or next (1024 + k) nan ≡ f k ⊖ g k) i (λ k l h. p.three_before k l ∙ w.three k h l) (λ h. p.three ∙ rw (ex, ey)) k l h;
-        over = λ q h. p.over q h ∙ w.over q h;
-      }
+  -- the cells from y up to z after those before them
+  pub trio_join : {f' g' : ℕ → Float} {mid new : Scratch} {y z : ℕ} → Trio f g old a y mid → Trio f' g' mid y z new → a ≤ y → y ≤ z
+      → ((i : ℕ) → y ≤ i → i < z → f' i ≡ f i) → ((i : ℕ) → y ≤ i → i < z → g' i ≡ g i) → Trio f g old a z new
+  trio_join s t h l p q = record {
+    one = span_join _ _ _ _ s.one t.one h l p;
+    two = span_join _ _ _ _ s.two t.two h l q;
+    three = span_join _ _ _ _ s.three t.three h l (λ i u v. rw (p i u v, q i u v));
+  }
 
-  pub trio_end : {new : List Float} {i n : ℕ} → Trio f g old a i new → i ≡ n → Trio f g old a n new
+  pub trio_step : {new next : Scratch} {i : ℕ} {x y : Float} → Trio f g old a i new → Trio (λ k. x) (λ k. y) new i (i + 1) next → a ≤ i → x ≡ f i → y ≡ g i → Trio f g old a (i + 1) next
+  trio_step {new} {next} {i} w p h ex ey =
+      trio_join w p h (omega arith) (λ k u v. let e : i ≡ k = omega arith in ex ∙ ap f e) (λ k u v. let e : i ≡ k = omega arith in ey ∙ ap g e)
+
+  pub trio_end : {new : Scratch} {i n : ℕ} → Trio f g old a i new → i ≡ n → Trio f g old a n new
   trio_end {new} w e = subst (λ (k : ℕ). Trio f g old a k new) e w
 
-  pub trio_as : {f' g' : ℕ → Float} {new : List Float} {z : ℕ} → Trio f' g' old a z new → ((i : ℕ) → a ≤ i → i < z → f' i ≡ f i) → ((i : ℕ) → a ≤ i → i < z → g' i ≡ g i) → Trio f g old a z new
-  trio_as w ef eg =
-      record {
-        len = w.len;
-        one = λ i h l. w.one i h l ∙ ef i h l;
-        two = λ i h l. w.two i h l ∙ eg i h l;
-        three = λ i h l. w.three i h l ∙ rw (ef i h l, eg i h l);
-        over = w.over;
-      }
+  pub trio_as : {f' g' : ℕ → Float} {new : Scratch} {z : ℕ} → Trio f' g' old a z new → ((i : ℕ) → a ≤ i → i < z → f' i ≡ f i) → ((i : ℕ) → a ≤ i → i < z → g' i ≡ g i) → Trio f g old a z new
+  trio_as w ef eg = record {
+    one = span_as _ _ _ _ w.one ef;
+    two = span_as _ _ _ _ w.two eg;
+    three = span_as _ _ _ _ w.three (λ i h l. rw (ef i h l, eg i h l));
+  }
 
 -- the derivative of the cell that is the i-th from a on
 pub slope_from : (d : Float) (e : List Float) (lo hi a i : ℕ) → slope d (get_or e (lo + i) nan) (get_or e (hi + i) nan) ≡ slope d (get_or e (lo + (a + i - a)) nan) (get_or e (hi + (a + i - a)) nan)

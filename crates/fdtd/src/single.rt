@@ -1,12 +1,13 @@
 // What one cell takes and stores where a half step goes cell by cell, as it does in short rows: both half steps share it.
-ghost use Rattle.std.specs.Prelude.{◌≡◌, true, ◌&&◌, ◌+◌, ◌*◌, ◌≤◌, ◌<◌, length, get_or};
+ghost use Rattle.std.specs.Prelude.{◌≡◌, true, ◌+◌, ◌≤◌, ◌<◌, length, get_or};
 ghost use Rattle.std.specs.Float.{nan};
-ghost use Rattle.fdtd.specs.Yee.{term, slope, coef_at, in_layer, memory_after, curl};
+ghost use Rattle.fdtd.specs.Yee.{term, slope, in_layer, memory_after, curl};
 ghost use Rattle.fdtd.specs.Inner.Cell.{curl_by, first_by, second_by};
 ghost use Rattle.fdtd.specs.Inner.Begun.{Lone, Both, Known};
+ghost use Rattle.fdtd.specs.Inner.Turns.{Laid};
 
 use crate::turns::Turn;
-use crate::{Axis, Coef, rows, turns};
+use crate::{Coef, rows, turns};
 use cpml::memory;
 
 // Rows of fewer cells than this go cell by cell. Longer ones would gain less than they can lose: the numbers of a cell stand in some twenty places, and where
@@ -26,23 +27,12 @@ pub struct Shared {
     pub kt: Coef,
 }
 
-// The layer's numbers at the place p of w.
-pub fn coef_of(tab: &[f64], w: Axis, p: usize) -> Coef
-    requires { (w.tab + w.n + w.n + w.n ≤ length tab.now) × (p < w.n) }
-    ensures { result ≡ coef_at w tab.now p }
-{
-    let kinv = rows::at(tab, w.tab, p);
-    let b = rows::at(tab, w.tab + w.n, p);
-    let c = rows::at(tab, w.tab + w.n + w.n, p);
-    Coef { kinv, b, c }
-}
-
 // The derivative of the numbers that begin at a, from the cell lo to the cell hi.
 fn deriv_of(f: &[f64], d: f64, a: usize, lo: usize, hi: usize) -> f64
     requires { (a + lo < length f.now) × (a + hi < length f.now) }
     ensures { result ≡ slope d (get_or f.now (a + lo) nan) (get_or f.now (a + hi) nan) }
 {
-    rows::slope_of(d, rows::at(f, a, lo), rows::at(f, a, hi))
+    rows::slope_of(d, f[a + lo], f[a + hi])
 }
 
 // The curl after one side's layer has joined it, if it is on, and the memory at p moved on. Where it is off the memory is not even read.
@@ -114,12 +104,6 @@ pub fn curl_along(
     curl_of(mem, m1, m2, x, y, g.s.on, ks, g.t.on, kt)
 }
 
-pub fn both(x: bool, y: bool) -> bool
-    ensures { result ≡ (x && y) }
-{
-    if x { y } else { false }
-}
-
 // What the row (s, t) shares, beside the rows (bs, t) and (s, bt).
 pub fn find_shared(
     tab: &[f64],
@@ -131,14 +115,14 @@ pub fn find_shared(
     gos: bool,
     got: bool,
 ) -> Shared
-    requires s_lt_n { (s < g.s.n) × (t < g.t.n) × (bs < g.s.n) × (bt < g.t.n) × (g.s.n ≤ 512) × (g.t.n ≤ 512) }
-    requires count_value { (g.count ≡ g.t.n * g.s.n * g.r.n) × (g.count ≤ 1048576) }
+    requires laid { Laid g }
+    requires s_lt_n { (s < g.s.n) × (t < g.t.n) × (bs < g.s.n) × (bt < g.t.n) }
     requires n_in_bounds { (g.s.tab + g.s.n + g.s.n + g.s.n ≤ length tab.now) × (g.t.tab + g.t.n + g.t.n + g.t.n ≤ length tab.now) }
     ensures { Known g tab.now s t bs bt gos got result }
 {
     let p = turns::find_spot(g, s, t, bs, bt);
-    let ks = coef_of(tab, g.s, s);
-    let kt = coef_of(tab, g.t, t);
+    let ks = turns::coef_of(tab, g.s, s);
+    let kt = turns::coef_of(tab, g.t, t);
     Shared {
         q: p.q,
         bs: p.bs,

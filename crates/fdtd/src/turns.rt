@@ -3,12 +3,12 @@ ghost use Rattle.std.specs.Prelude.{◌≡◌, cond, ◌+◌, ◌*◌, ◌≤◌
 ghost use Rattle.std.specs.Float.Ieee.{eq};
 ghost use Rattle.root.specs.Rounded.{zero_f};
 ghost use Rattle.grid.specs.Inner.Sound.{Sound};
-ghost use Rattle.grid.specs.Stores.{cells};
-ghost use Rattle.fdtd.specs.Axes.{axis_x, axis_y, axis_z, next_of, has_next};
-ghost use Rattle.fdtd.specs.Inner.Turns.{turn_for, round, side_across, side_along, row_at, AtSpot, Zeros, Lull};
+ghost use Rattle.fdtd.specs.Axes.{next_of, has_next};
+ghost use Rattle.fdtd.specs.Yee.{coef_at};
+ghost use Rattle.fdtd.specs.Inner.Turns.{axis_by, turn_for, round, side_across, side_along, row_at, Laid, AtSpot, FirstPlace, Lull};
 
 use crate::rows::Side;
-use crate::{Axis, Coef, rows};
+use crate::{Axis, Coef};
 use grid::Record;
 
 #[derive(Clone, Copy)]
@@ -39,54 +39,21 @@ pub struct Run {
     pub hi: usize,
 }
 
-fn axis_x(r: Record, from: usize) -> Axis
-    requires { (r.nx ≤ 512) × (from ≤ 3) }
-    ensures { result ≡ axis_x r from }
+// Axis a, 0, 1 or 2, of n cells of size d, in a grid of count cells; its tables begin at tab.
+fn axis(r: Record, a: usize, n: usize, d: f64, count: usize, tab: usize) -> Axis
+    requires { (a ≤ 2) × (count ≤ 1048576) }
+    ensures { result ≡ axis_by r a n d count tab }
 {
     let wraps = r.periodic;
     let on = r.active;
     Axis {
-        n: r.nx,
-        d: r.spacings.dx,
-        wraps: wraps[0],
-        on: on[0],
-        at: 0,
-        mem: 0,
-        tab: from * r.nx,
-    }
-}
-
-fn axis_y(r: Record, from: usize, n: usize) -> Axis
-    requires { (n ≡ cells r) × (n ≤ 1048576) × (r.nx ≤ 512) × (r.ny ≤ 512) × (from ≤ 3) }
-    ensures { result ≡ axis_y r from }
-{
-    let wraps = r.periodic;
-    let on = r.active;
-    Axis {
-        n: r.ny,
-        d: r.spacings.dy,
-        wraps: wraps[1],
-        on: on[1],
-        at: n,
-        mem: 2 * n,
-        tab: 6 * r.nx + from * r.ny,
-    }
-}
-
-fn axis_z(r: Record, from: usize, n: usize) -> Axis
-    requires { (n ≡ cells r) × (n ≤ 1048576) × (r.nx ≤ 512) × (r.ny ≤ 512) × (r.nz ≤ 512) × (from ≤ 3) }
-    ensures { result ≡ axis_z r from }
-{
-    let wraps = r.periodic;
-    let on = r.active;
-    Axis {
-        n: r.nz,
-        d: r.spacings.dz,
-        wraps: wraps[2],
-        on: on[2],
-        at: 2 * n,
-        mem: 4 * n,
-        tab: 6 * r.nx + 6 * r.ny + from * r.nz,
+        n,
+        d,
+        wraps: wraps[a],
+        on: on[a],
+        at: a * count,
+        mem: 2 * a * count,
+        tab,
     }
 }
 
@@ -96,61 +63,39 @@ pub fn turn_of(r: Record, from: usize) -> Turn
     requires from_bound { from ≤ 3 }
     ensures { result ≡ turn_for r from }
 {
-    let n = r.nx * r.ny * r.nz;
-    let x = axis_x(r, from);
-    let y = axis_y(r, from, n);
-    let z = axis_z(r, from, n);
-    let dt = r.spacings.dt;
-    if r.nx == 1 {
-        if r.ny == 1 {
-            Turn {
-                r: z,
-                s: x,
-                t: y,
-                dt,
-                count: n,
-            }
-        } else {
-            Turn {
-                r: y,
-                s: z,
-                t: x,
-                dt,
-                count: n,
-            }
-        }
-    } else {
-        Turn {
-            r: x,
-            s: y,
-            t: z,
-            dt,
-            count: n,
-        }
+    let count = r.nx * r.ny * r.nz;
+    let s = r.spacings;
+    let dt = s.dt;
+    let x = axis(r, 0, r.nx, s.dx, count, from * r.nx);
+    let y = axis(r, 1, r.ny, s.dy, count, 6 * r.nx + from * r.ny);
+    let z = axis(r, 2, r.nz, s.dz, count, 6 * r.nx + 6 * r.ny + from * r.nz);
+    if r.nx != 1 {
+        return turn_by(x, y, z, dt, count);
     }
+    if r.ny != 1 {
+        return turn_by(y, z, x, dt, count);
+    }
+    turn_by(z, x, y, dt, count)
+}
+
+fn turn_by(r: Axis, s: Axis, t: Axis, dt: f64, count: usize) -> Turn
+    ensures { result ≡ record { r = r; s = s; t = t; dt = dt; count = count } }
+{
+    Turn { r, s, t, dt, count }
 }
 
 // The same grid with its axes named from the next one round.
 pub fn turned(g: Turn) -> Turn
     ensures { result ≡ round g }
 {
-    let r = g.s;
-    let s = g.t;
-    let t = g.r;
-    Turn {
-        r,
-        s,
-        t,
-        dt: g.dt,
-        count: g.count,
-    }
+    turn_by(g.s, g.t, g.r, g.dt, g.count)
 }
 
 pub fn has_next(w: Axis, p: usize) -> bool
     requires { p < w.n }
     ensures { result ≡ has_next w p }
 {
-    if p + 1 < w.n { true } else { w.wraps }
+    p + 1 < w.n || w.wraps
 }
 
 pub fn next_of(p: usize, n: usize) -> usize
@@ -164,6 +109,18 @@ fn start_of(c: f64, a: usize, z: usize) -> usize
     ensures { result ≡ cond (eq c zero_f) a z }
 {
     if c == 0.0 { a } else { z }
+}
+
+// The layer's numbers at the place p of w.
+pub fn coef_of(tab: &[f64], w: Axis, p: usize) -> Coef
+    requires { (w.tab + w.n + w.n + w.n ≤ length tab.now) × (p < w.n) }
+    ensures { result ≡ coef_at w tab.now p }
+{
+    Coef {
+        kinv: tab[w.tab + p],
+        b: tab[w.tab + w.n + p],
+        c: tab[w.tab + w.n + w.n + p],
+    }
 }
 
 // The side across a row at the place p of w, for the cells from a up to z.
@@ -180,15 +137,13 @@ pub fn across(
     requires { (w.tab + w.n + w.n + w.n ≤ length tab.now) × (p < w.n) }
     ensures { result ≡ side_across w tab.now p a z own other mem }
 {
-    let kinv = rows::at(tab, w.tab, p);
-    let b = rows::at(tab, w.tab + w.n, p);
-    let c = rows::at(tab, w.tab + w.n + w.n, p);
-    let lo = start_of(c, a, z);
+    let k = coef_of(tab, w, p);
+    let lo = start_of(k.c, a, z);
     Side {
         along: false,
         on: w.on,
         d: w.d,
-        k: Coef { kinv, b, c },
+        k,
         tab: 0,
         len: 0,
         lo,
@@ -223,8 +178,8 @@ pub fn along(w: Axis, run: Run, own: usize, mem: usize) -> Side
 
 // The first cell of the row (s, t).
 fn row_at(g: Turn, s: usize, t: usize) -> usize
-    requires s_lt_n { (s < g.s.n) × (t < g.t.n) × (g.s.n ≤ 512) × (g.t.n ≤ 512) }
-    requires count_value { (g.count ≡ g.t.n * g.s.n * g.r.n) × (g.count ≤ 1048576) }
+    requires laid { Laid g }
+    requires s_lt_n { (s < g.s.n) × (t < g.t.n) }
     ensures { (result ≡ row_at g s t) × (result + g.r.n ≤ g.count) }
 {
     (s + t * g.s.n) * g.r.n
@@ -232,8 +187,8 @@ fn row_at(g: Turn, s: usize, t: usize) -> usize
 
 // The row (s, t), and the rows (bs, t) and (s, bt) beside it.
 pub fn find_spot(g: Turn, s: usize, t: usize, bs: usize, bt: usize) -> Spot
-    requires s_lt_n { (s < g.s.n) × (t < g.t.n) × (bs < g.s.n) × (bt < g.t.n) × (g.s.n ≤ 512) × (g.t.n ≤ 512) }
-    requires count_value { (g.count ≡ g.t.n * g.s.n * g.r.n) × (g.count ≤ 1048576) }
+    requires laid { Laid g }
+    requires s_lt_n { (s < g.s.n) × (t < g.t.n) × (bs < g.s.n) × (bt < g.t.n) }
     ensures { AtSpot g s t bs bt result }
 {
     Spot {
@@ -245,31 +200,13 @@ pub fn find_spot(g: Turn, s: usize, t: usize, bs: usize, bt: usize) -> Spot
     }
 }
 
-// The first place from a on, below z, where a table that begins at t has 0, or z.
-fn calm_from(tab: &[f64], t: usize, a: usize, z: usize) -> usize
+// The first place from a on, below z, where the number of a table that begins at t is 0, or where it is not; z where there is none.
+fn first_place(tab: &[f64], t: usize, a: usize, z: usize, zero: bool) -> usize
     requires { (t + z ≤ length tab.now) × (a ≤ z) }
-    ensures { (a ≤ result) × (result ≤ z) }
+    ensures { FirstPlace tab.now t a z zero result }
 {
-    let mut i = a;
-    while i < z {
-        if rows::at(tab, t, i) == 0.0 {
-            return i;
-        }
-        i += 1usize;
-    }
-    z
-}
-
-// How far from a on, up to z, it has nothing else.
-fn calm_to(tab: &[f64], t: usize, a: usize, z: usize) -> usize
-    requires { (t + z ≤ length tab.now) × (a ≤ z) }
-    ensures { Zeros tab.now t a z result }
-{
-    let mut i = a;
-    while i < z {
-        if rows::at(tab, t, i) == 0.0 {
-            i += 1usize;
-        } else {
+    for i in a..z {
+        if (tab[t + i] == 0.0) == zero {
             return i;
         }
     }
@@ -281,8 +218,8 @@ pub fn find_lull(tab: &[f64], w: Axis, a: usize, z: usize) -> Run
     requires { (w.tab + w.n + w.n + w.n ≤ length tab.now) × (a ≤ z) × (z ≤ w.n) }
     ensures { Lull w tab.now a z result }
 {
-    let lo = calm_from(tab, w.tab + w.n + w.n, a, z);
-    let hi = calm_to(tab, w.tab + w.n + w.n, lo, z);
+    let lo = first_place(tab, w.tab + w.n + w.n, a, z, true);
+    let hi = first_place(tab, w.tab + w.n + w.n, lo, z, false);
     Run {
         start: a,
         end: z,

@@ -1,4 +1,6 @@
 -- The fields cleared, their energy, and the plane reading (grid.rs, `reset_fields` and `total_energy`; document 01). Definitions only.
+use Rattle.refusals.specs.declared.Refusal.TheVariants.{NoSuchPlane}
+use Rattle.refusals.specs.Refusals.{number}
 use Rattle.std.specs.Prelude.{ℕ, ◌+◌, ◌*◌, Bool, ◌&&◌, List, ltb, eqb, length, Float}
 use Rattle.root.specs.Rounded.{◌⊕◌, ◌⊗◌, zero_f, half_f, summed}
 use Rattle.grid.specs.declared.Record.{Record}
@@ -69,7 +71,7 @@ plane_of r k e h =
     summed (r.nx * r.ny) (plane_at r.nx r.ny (cells r) k e h) ⊗ (s.dx ⊗ s.dy)
 
 abbrev pub no_such_plane : ℕ
-no_such_plane = 17
+no_such_plane = number NoSuchPlane
 
 unfoldable pub plane_fault : Record → (k electric magnetic : ℕ) → ℕ
 plane_fault r k e h =

@@ -3,15 +3,14 @@ ghost use Rattle.std.specs.Prelude.{◌≡◌, ◌+◌, ◌*◌, ◌≤◌, ◌<
 ghost use Rattle.std.specs.Float.{binary64};
 ghost use Rattle.std.specs.Float.Ieee.{mul};
 ghost use Rattle.grid.specs.Vacuum.{eps_of, mu_of};
+ghost use Rattle.refusals.specs.Refusals.{code, value_or};
+ghost use Rattle.root.specs.Rounded.{zero_f, summed};
 ghost use Rattle.grid.specs.Stores.{outcome, number_at};
-ghost use Rattle.root.specs.Rounded.{summed};
 ghost use Rattle.fields.specs.Fields.{squared, cell_energy, energy_at, energy_fault, energy_call, plane_fault, plane_call};
 
-use crate::Reading;
-use grid::{Record, fault, stores};
+use grid::{Record, stores};
+use refusals::{Refusal, require};
 use root::vacuum;
-
-pub const NO_SUCH_PLANE: u32 = 17;
 
 fn squared_of(x: f64, y: f64, z: f64) -> f64
     ensures { result ≡ squared x y z }
@@ -58,45 +57,32 @@ fn energy_sum(e: &[f64], h: &[f64], media: &[f64], n: usize, dv: f64, eps0: f64,
     ensures { result ≡ summed n (energy_at eps0 mu0 dv n e.now h.now media.now) }
 {
     let mut energy = 0.0;
-    let mut m = 0;
-    while m < n {
-        energy = energy + energy_at(e, h, media, n, dv, eps0, mu0, m);
-        m += 1;
+    for m in 0..n {
+        energy += energy_at(e, h, media, n, dv, eps0, mu0, m);
     }
     energy
 }
 
-fn energy_fault(r: Record, e: usize, h: usize, media: usize) -> u32
-    ensures { result ≡ energy_fault r e h media }
+#[tactic(auto, unfolding(crate::specs::Fields::energy_fault, grid::specs::Stores::fault_lent), using(grid::proofs::Settled::own_fault, grid::proofs::Settled::later_fault))]
+fn energy_fault(r: Record, e: usize, h: usize, media: usize) -> Result<(), Refusal>
+    ensures { code result ≡ energy_fault r e h media }
 {
-    let j = stores::judge(r);
-    let l = j.lengths;
-    stores::lent_fault(
-        j.refusal,
+    let l = stores::judge(r)?;
+    require(
         (e == l.electric) & (h == l.magnetic) & (media == l.media),
+        Refusal::BadStore,
     )
 }
 
 // The energy of both fields, by the record's constants.
-pub fn total_energy(r: Record, e: &[f64], h: &[f64], media: &[f64]) -> Reading
-    ensures { outcome result.refusal result.study result.value ≡ energy_call (eps_of r) (mu_of r) r e.now h.now media.now }
+#[tactic(auto, unfolding(crate::specs::Fields::energy_call), using(grid::proofs::Settled::turned_down, refusals::proofs::Numbers::stands_in))]
+pub fn total_energy(r: Record, e: &[f64], h: &[f64], media: &[f64]) -> Result<f64, Refusal>
+    ensures { outcome (code result) r (value_or zero_f result) ≡ energy_call (eps_of r) (mu_of r) r e.now h.now media.now }
 {
-    let f = energy_fault(r, e.len(), h.len(), media.len());
-    if f != 0 {
-        return Reading {
-            refusal: f,
-            study: r,
-            value: 0.0,
-        };
-    }
+    energy_fault(r, e.len(), h.len(), media.len())?;
     let dv = r.spacings.dx * r.spacings.dy * r.spacings.dz;
     let v = vacuum::chosen(r.constants);
-    let energy = energy_sum(e, h, media, r.nx * r.ny * r.nz, dv, v.eps0, v.mu0);
-    Reading {
-        refusal: 0,
-        study: r,
-        value: energy,
-    }
+    Ok(energy_sum(e, h, media, r.nx * r.ny * r.nz, dv, v.eps0, v.mu0))
 }
 
 // ex·hy added up over a plane of cells that begins at the place q.
@@ -105,40 +91,28 @@ fn plane_sum(e: &[f64], h: &[f64], plane: usize, n: usize, q: usize) -> f64
     ensures { result ≡ summed plane (λ m. mul binary64 (number_at e.now n 0 (q + m)) (number_at h.now n 1 (q + m))) }
 {
     let mut sum = 0.0;
-    let mut m = 0;
-    while m < plane {
-        sum = sum + e[q + m] * h[n + (q + m)];
-        m += 1;
+    for m in 0..plane {
+        sum += e[q + m] * h[n + (q + m)];
     }
     sum
 }
 
-fn plane_fault(r: Record, k: usize, e: usize, h: usize) -> u32
-    ensures { result ≡ plane_fault r k e h }
+#[tactic(auto, unfolding(crate::specs::Fields::plane_fault, grid::specs::Stores::fault_lent), using(grid::proofs::Settled::own_fault, grid::proofs::Settled::later_fault))]
+fn plane_fault(r: Record, k: usize, e: usize, h: usize) -> Result<(), Refusal>
+    ensures { code result ≡ plane_fault r k e h }
 {
-    let j = stores::judge(r);
-    let l = j.lengths;
-    let f = stores::lent_fault(j.refusal, (e == l.electric) & (h == l.magnetic));
-    stores::or_else(f, fault::first_fault(k < r.nz, NO_SUCH_PLANE, 0))
+    let l = stores::judge(r)?;
+    require((e == l.electric) & (h == l.magnetic), Refusal::BadStore)?;
+    require(k < r.nz, Refusal::NoSuchPlane)
 }
 
 // ex·hy over the cells of plane k, times the area of a cell.
-pub fn plane_reading(r: Record, k: usize, e: &[f64], h: &[f64]) -> Reading
-    ensures { outcome result.refusal result.study result.value ≡ plane_call r k e.now h.now }
+#[tactic(auto, unfolding(crate::specs::Fields::plane_call), using(grid::proofs::Settled::turned_down, refusals::proofs::Numbers::stands_in))]
+pub fn plane_reading(r: Record, k: usize, e: &[f64], h: &[f64]) -> Result<f64, Refusal>
+    ensures { outcome (code result) r (value_or zero_f result) ≡ plane_call r k e.now h.now }
 {
-    let f = plane_fault(r, k, e.len(), h.len());
-    if f != 0 {
-        return Reading {
-            refusal: f,
-            study: r,
-            value: 0.0,
-        };
-    }
+    plane_fault(r, k, e.len(), h.len())?;
     let plane = r.nx * r.ny;
     let sum = plane_sum(e, h, plane, plane * r.nz, k * plane);
-    Reading {
-        refusal: 0,
-        study: r,
-        value: sum * (r.spacings.dx * r.spacings.dy),
-    }
+    Ok(sum * (r.spacings.dx * r.spacings.dy))
 }

@@ -1,4 +1,6 @@
 -- The save of a study (document 01, "The save"): eleven records, GH ML CI CM FE FH LE LH LT PP AX. Definitions only.
+use Rattle.refusals.specs.declared.Refusal.TheVariants.{NoRoom}
+use Rattle.refusals.specs.Refusals.{number}
 use Rattle.std.specs.Prelude.{ℕ, ◌+◌, ◌*◌, List, [], ◌∷◌, leb, length, get_or}
 use Rattle.codec.specs.Lists.{put}
 use Rattle.codec.specs.Bytes.{floats_bytes, ids_bytes}
@@ -76,7 +78,7 @@ length_call r = settle (fault_of r) r 0 r (save_length r)
 
 -- ---- the call: the four faults that come first, then 12 NoRoom; bytes beyond the length stay
 abbrev pub no_room : ℕ
-no_room = 12
+no_room = number NoRoom
 
 unfoldable pub save_fault : Record → Lengths → (room : ℕ) → ℕ
 save_fault r l room = or_else (fault_with r l) (first (leb (save_length r) room) no_room 0)

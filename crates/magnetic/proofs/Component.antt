@@ -36,20 +36,20 @@ pick_stop : (go : Bool) (x y : Float) → go ≡ false → y ≡ cond go x y
 pick_stop go x y e = rw e
 
 module _ (A B C : Axis) (count : ℕ) (e tab mem : List Float) (q i onB onC upB up_c : ℕ) where
-  at_h : (b c : Side) (n : ℕ) (scr h : List Float) → Stands b B C e tab mem (slope_of b e n i) q i onB (q + i) upB A.mem
+  at_h : (b c : Side) (n : ℕ) (fac h : List Float) → Stands b B C e tab mem (slope_of b e n i) q i onB (q + i) upB A.mem
       → Stands c C B e tab mem (slope_of c e n i) q i onC (q + i) up_c (A.mem + count) → moves_h B C onB onC ≡ true
-      → field_of b c e tab mem scr h n (A.at + q) i ≡ field_h A B C count e tab mem (q + i) onB onC upB up_c (get_or scr (1536 + i) nan) h
+      → field_of b c e tab mem fac h n (A.at + q) i ≡ field_h A B C count e tab mem (q + i) onB onC upB up_c (get_or fac i nan) h
   unfolding field_of field_h updated_h
-  at_h b c n scr h sb sc g = rw (at_curl A B C count e tab mem q i onB onC (q + i) upB (q + i) up_c b c _ _ sb sc, add_assoc A.at q i) (pick_go _ _ _ g)
+  at_h b c n fac h sb sc g = rw (at_curl A B C count e tab mem q i onB onC (q + i) upB (q + i) up_c b c _ _ sb sc, add_assoc A.at q i) (pick_go _ _ _ g)
 
   stop_h : moves_h B C onB onC ≡ false → (h : List Float) (f : Float) → get_or h (A.at + q + i) nan ≡ field_h A B C count e tab mem (q + i) onB onC upB up_c f h
   unfolding field_h updated_h
   stop_h g h f = rw (add_assoc A.at q i) (pick_stop _ _ _ g)
 
-module _ (A B C : Axis) (count : ℕ) (e tab mem scr h : List Float) (q n : ℕ) (onB onC upB up_c : ℕ → ℕ) where
+module _ (A B C : Axis) (count : ℕ) (e tab mem fac h : List Float) (q n : ℕ) (onB onC upB up_c : ℕ → ℕ) where
   abbrev pub Moved : List Float → List Float → Type 0
   Moved h' mem' =
-      Span (λ i. field_h A B C count e tab mem (q + i) (onB i) (onC i) (upB i) (up_c i) (get_or scr (1536 + i) nan) h) h (A.at + q) 0 n h'
+      Span (λ i. field_h A B C count e tab mem (q + i) (onB i) (onC i) (upB i) (up_c i) (get_or fac i nan) h) h (A.at + q) 0 n h'
       × Memories A B C count e tab mem q n onB onC (λ i. q + i) upB (λ i. q + i) up_c (λ i. moves_h B C (onB i) (onC i)) mem'
 
   -- nothing moves
@@ -65,11 +65,11 @@ module _ (A B C : Axis) (count : ℕ) (e tab mem scr h : List Float) (q n : ℕ)
       (sc : (i : ℕ) → Stands c C B e tab mem (slope_of c e n i) q i (onC i) (q + i) (up_c i) (A.mem + count))
       (go : (i : ℕ) → i < m → moves_h B C (onB i) (onC i) ≡ true)
       (stop : (i : ℕ) → m ≤ i → i < n → moves_h B C (onB i) (onC i) ≡ false)
-      (hh : Span (field_of b c e tab mem scr h n (A.at + q)) h (A.at + q) 0 m h')
+      (hh : Span (field_of b c e tab mem fac h n (A.at + q)) h (A.at + q) 0 m h')
       (mm : Two (λ i. side_memory b tab mem i (slope_of b e n i)) (λ i. side_memory c tab mem i (slope_of c e n i)) mem b.mem c.mem 0 m mem') where
     pub moved : Moved h' mem'
     moved = (
-      span_more _ _ _ _ (span_as _ _ _ _ hh (λ i u l. at_h A B C count e tab mem q i _ _ _ _ b c n scr h (sb i) (sc i) (go i l))) (omega arith) most
+      span_more _ _ _ _ (span_as _ _ _ _ hh (λ i u l. at_h A B C count e tab mem q i _ _ _ _ b c n fac h (sb i) (sc i) (go i l))) (omega arith) most
           (λ i u l. stop_h A B C count e tab mem q i _ _ _ _ (stop i u l) h _),
       moved_mem A B C count e tab mem q n onB onC (λ i. q + i) upB (λ i. q + i) up_c (λ i. moves_h B C (onB i) (onC i)) b c (slope_of b e n) (slope_of c e n) 0 m mem' most room
           sb sc (λ i k l. go i l) (λ i l. ⊎_elim (λ u. absurd (omega arith)) (λ u. stop i u l)) mm (omega arith),

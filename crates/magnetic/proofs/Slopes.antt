@@ -1,27 +1,28 @@
 -- The derivatives that the passes take are the row's: at a cell that is not the last, at the last, and across. Assumes nothing.
 use mathlib.Core.Path.{◌≡◌, refl, sym, ◌∙◌, ap, subst}
-use mathlib.Core.Bool.{Bool, true, false, cond, ◌||◌}
+use mathlib.Core.Bool.{Bool, true, false, cond, ◌&&◌, ◌||◌}
 use mathlib.Core.List.{List}
 use Prim.Native.Nat.{ℕ, ◌+◌, ◌-◌, ◌≤◌, ◌<◌}
 use native.Mathlib.Nat.{add_assoc}
 use native.Mathlib.Omega.{arith}
-use borrow.Author.Tests.{lt-ltb, le-ltb}
-use lib.Dec.{ltb}
+use borrow.Author.Tests.{lt-ltb, le-ltb, eqb-false}
+use lib.Dec.{ltb, eqb}
 use lib.ListN.{get_or}
 use lib.Ieee.{Float, nan}
 use Rattle.fdtd.specs.declared.Axis.{Axis}
+use Rattle.fdtd.specs.declared.rows.Differences.{Differences}
 use Rattle.fdtd.specs.declared.rows.Side.{Side}
 use Rattle.fdtd.specs.declared.turns.Run.{Run}
 use Rattle.fdtd.specs.Axes.{next_of}
 use Rattle.fdtd.specs.Yee.{slope, derivative}
 use Rattle.fdtd.specs.Inner.Turns.{side_across, side_along, Lull}
-use Rattle.magnetic.specs.Inner.Row.{next_at, slope_of, NextRun}
+use Rattle.magnetic.specs.Inner.Row.{ahead_of, next_at, slope_of, NextRun}
 
-next_inner : (b : Bool) (own other i n : ℕ) → i + 1 < n → cond b (own + 1) other + i ≡ cond b (own + next_of i n) (other + i)
-next_inner true own other i n h = rw (lt-ltb (i + 1) n h) (omega arith)
-next_inner false own other i n h = refl
+next_ahead : (b : Bool) (own other i n : ℕ) → (b ≡ true → i + 1 < n) → cond b (own + 1) other + i ≡ cond b (own + next_of i n) (other + i)
+next_ahead true own other i n h = rw (lt-ltb (i + 1) n (h refl)) (omega arith)
+next_ahead false own other i n h = refl
 
-next_last : (b : Bool) (own other i n : ℕ) → n ≡ i + 1 → cond b (own + 0) (other + i) + 0 ≡ cond b (own + next_of i n) (other + i)
+next_last : (b : Bool) (own other i n : ℕ) → n ≡ i + 1 → cond b (own + 0) (other + i) ≡ cond b (own + next_of i n) (other + i)
 next_last true own other i n h = rw (le-ltb (i + 1) n (omega arith)) (omega arith)
 next_last false own other i n h = omega arith
 
@@ -30,38 +31,53 @@ from_first : (d : Float) (e : List Float) (lo hi i : ℕ) → slope d (get_or e 
 from_first d e lo hi i = let z : i - 0 ≡ i = omega arith in ap (λ (x : ℕ). slope d (get_or e (lo + x) nan) (get_or e (hi + x) nan)) z
 
 module _ (s : Side) (e : List Float) (n i : ℕ) where
-  pub slope_inner : {b : ℕ} → b ≡ cond s.along (s.own + 1) s.other → i + 1 < n → slope s.d (get_or e (s.own + (i - 0)) nan) (get_or e (b + (i - 0)) nan) ≡ slope_of s e n i
+  pub slope_ahead : {t : Differences} → t ≡ ahead_of s → (s.along ≡ true → i + 1 < n) → slope t.d (get_or e (t.lo + (i - 0)) nan) (get_or e (t.hi + (i - 0)) nan) ≡ slope_of s e n i
   unfolding slope_of next_at
-  slope_inner {b} p h =
-      from_first s.d e s.own b i
-      ∙ ap (λ (x : ℕ). slope s.d (get_or e (s.own + i) nan) (get_or e x nan)) (ap (λ (x : ℕ). x + i) p ∙ next_inner s.along s.own s.other i n h)
+  slope_ahead p h =
+      rw p (from_first s.d e s.own (cond s.along (s.own + 1) s.other) i
+      ∙ ap (λ (x : ℕ). slope s.d (get_or e (s.own + i) nan) (get_or e x nan)) (next_ahead s.along s.own s.other i n h))
 
-  pub slope_last : {b : ℕ} → b ≡ cond s.along (s.own + 0) (s.other + i) → n ≡ i + 1 → slope s.d (get_or e (s.own + i) nan) (get_or e (b + 0) nan) ≡ slope_of s e n i
+  pub slope_last : {b : ℕ} → b ≡ cond s.along (s.own + 0) (s.other + i) → n ≡ i + 1 → slope s.d (get_or e (s.own + i) nan) (get_or e b nan) ≡ slope_of s e n i
   unfolding slope_of next_at
   slope_last {b} p h =
-      ap (λ (x : ℕ). slope s.d (get_or e (s.own + i) nan) (get_or e x nan)) (ap (λ (x : ℕ). x + 0) p ∙ next_last s.along s.own s.other i n h)
-
-  pub slope_across : s.along ≡ false → slope s.d (get_or e (s.own + (i - 0)) nan) (get_or e (s.other + (i - 0)) nan) ≡ slope_of s e n i
-  unfolding slope_of next_at
-  slope_across p = from_first s.d e s.own s.other i ∙ rw p
+      ap (λ (x : ℕ). slope s.d (get_or e (s.own + i) nan) (get_or e x nan)) (p ∙ next_last s.along s.own s.other i n h)
 
 -- they are there
-pub begin_le : (b : Bool) (own other m n l : ℕ) {r : ℕ} → r ≡ cond b (own + 1) other → m < n → own + n ≤ l → other + n ≤ l → r + m ≤ l
-begin_le true own other m n l e h p q = omega arith
-begin_le false own other m n l e h p q = omega arith
+pub ahead_le : (s : Side) (m n l : ℕ) {t : Differences} → t ≡ ahead_of s → (s.along ≡ true → m < n) → m ≤ n → s.own + n ≤ l → s.other + n ≤ l → t.hi + m ≤ l
+ahead_le s m n l e h k p q = rw e (go s.along h)
+  where
+    go : (b : Bool) → (b ≡ true → m < n) → cond b (s.own + 1) s.other + m ≤ l
+    go true f = let g : m < n = f refl in omega arith
+    go false f = omega arith
 
-pub last_le : (b : Bool) (own other n l : ℕ) {r : ℕ} → r ≡ cond b (own + 0) (other + (n - 1)) → 1 ≤ n → own + n ≤ l → other + n ≤ l → r + 0 < l
+pub lo_le : (s : Side) (m n l : ℕ) {t : Differences} → t ≡ ahead_of s → m ≤ n → s.own + n ≤ l → t.lo + m ≤ l
+lo_le s m n l e k p = rw e (omega arith)
+
+pub last_le : (b : Bool) (own other n l : ℕ) {r : ℕ} → r ≡ cond b (own + 0) (other + (n - 1)) → 1 ≤ n → own + n ≤ l → other + n ≤ l → r < l
 last_le true own other n l e h p q = omega arith
 last_le false own other n l e h p q = omega arith
 
--- neither side lies along the row
-pub neither_x : (x y : Bool) → cond x true y ≡ false → x ≡ false
-neither_x true y p = p
-neither_x false y p = refl
+-- where the last cell's neighbour is not the first, no side lies along a whole row
+off_left : (a b : Bool) → (a && b) ≡ false → b ≡ true → a ≡ false
+off_left true b p q = cc
+off_left false b p q = refl
 
-pub neither_y : (x y : Bool) → cond x true y ≡ false → y ≡ false
-neither_y true y p = absurd (let z : ◌≡◌ {A = ℕ} 0 1 = cc in omega arith)
-neither_y false y p = p
+or_left : (x y : Bool) → x ≡ true → (x || y) ≡ true
+or_left x y p = rw p
+
+or_right : (x y : Bool) → y ≡ true → (x || y) ≡ true
+or_right true y p = refl
+or_right false y p = p
+
+module _ (x y : Bool) (m n : ℕ) (p : (eqb m n && (x || y)) ≡ false) (most : m ≤ n) where
+  short_of : (x || y) ≡ true → m < n
+  short_of q = omega (arith, eqb-false m n (off_left (eqb m n) (x || y) p q))
+
+  pub short_x : x ≡ true → m < n
+  short_x q = short_of (or_left x y q)
+
+  pub short_y : y ≡ true → m < n
+  short_y q = short_of (or_right x y q)
 
 -- the derivatives of the two kinds of side, by the cells' places
 module _ (w v : Axis) (e tab : List Float) (n q i p a z up mem : ℕ) where

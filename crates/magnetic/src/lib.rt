@@ -10,49 +10,42 @@ ghost use Rattle.grid.specs.Inner.Sound.{Sound};
 ghost use Rattle.grid.specs.Stores.{cells};
 ghost use Rattle.fdtd.specs.Axes.{next_of};
 ghost use Rattle.fdtd.specs.Halves.{half_h, psi_after, magnetic_after};
-ghost use Rattle.fdtd.specs.Inner.Span.{Span, Two, Top};
-ghost use Rattle.fdtd.specs.Inner.Turns.{Fit, Laid};
+ghost use Rattle.fdtd.specs.Inner.Span.{Span, Two};
+ghost use Rattle.fdtd.specs.Inner.Turns.{Fit};
 ghost use Rattle.magnetic.specs.Inner.Row.{field_h, first_h, second_h, NextRun};
 ghost use Rattle.magnetic.specs.Inner.Swept.{Swept, Carried};
 
+use fdtd::rows::Scratch;
 use fdtd::turns::{Run, Spot, Turn};
 use fdtd::{single, turns};
 use grid::Record;
 
+// kept: three components, since they differ in which of their sides lie along the row.
+
 // The component along r: both of its sides lie across the row.
-fn comp_r(h: &mut [f64], mem: &mut [f64], scr: &mut [f64], e: &[f64], tab: &[f64], g: Turn, p: Spot)
+fn comp_r(
+    h: &mut [f64],
+    mem: &mut [f64],
+    scr: &mut Scratch,
+    f: &[f64],
+    e: &[f64],
+    tab: &[f64],
+    g: Turn,
+    p: Spot,
+)
     requires fit { Fit g e.now tab.now mem.old h.old }
-    requires s_lt_n { (p.s < g.s.n) × (p.t < g.t.n) × (length scr.old ≡ 2048) }
+    requires s_lt_n { (p.s < g.s.n) × (p.t < g.t.n) × (g.r.n ≤ length f.now) }
     requires n_bound { (p.q + g.r.n ≤ g.count) × (p.bs + g.r.n ≤ g.count) × (p.bt + g.r.n ≤ g.count) }
-    ensures span { Span (λ i. field_h g.r g.s g.t g.count e.now tab.now mem.old (p.q + i) p.s p.t (p.bs + i) (p.bt + i) (get_or scr.old (1536 + i) nan) h.old) h.old (g.r.at + p.q) 0 g.r.n h.new }
+    ensures span { Span (λ i. field_h g.r g.s g.t g.count e.now tab.now mem.old (p.q + i) p.s p.t (p.bs + i) (p.bt + i) (get_or f.now i nan) h.old) h.old (g.r.at + p.q) 0 g.r.n h.new }
     ensures two { Two (λ i. first_h g.r g.s g.t g.count e.now tab.now mem.old (p.q + i) p.s p.t (p.bs + i) (p.bt + i)) (λ i. second_h g.r g.s g.t g.count e.now tab.now mem.old (p.q + i) p.s p.t (p.bs + i) (p.bt + i)) mem.old (g.r.mem + p.q) (g.r.mem + g.count + p.q) 0 g.r.n mem.new }
-    ensures top { Top scr.old 1536 scr.new }
 {
-    if turns::has_next(g.s, p.s) {
-        if turns::has_next(g.t, p.t) {
-            let n = g.r.n;
-            let b = turns::across(
-                tab,
-                g.s,
-                p.s,
-                0,
-                n,
-                g.t.at + p.q,
-                g.t.at + p.bs,
-                g.r.mem + p.q,
-            );
-            let c = turns::across(
-                tab,
-                g.t,
-                p.t,
-                0,
-                n,
-                g.s.at + p.q,
-                g.s.at + p.bt,
-                g.r.mem + g.count + p.q,
-            );
-            row::row(h, mem, scr, e, tab, g.r.at + p.q, n, n, b, c);
-        }
+    if turns::has_next(g.s, p.s) & turns::has_next(g.t, p.t) {
+        let n = g.r.n;
+        let m = g.r.mem + p.q;
+        let k = g.r.mem + g.count + p.q;
+        let b = turns::across(tab, g.s, p.s, 0, n, g.t.at + p.q, g.t.at + p.bs, m);
+        let c = turns::across(tab, g.t, p.t, 0, n, g.s.at + p.q, g.s.at + p.bt, k);
+        row::row(h, mem, scr, f, e, tab, g.r.at + p.q, n, n, b, c);
     }
 }
 
@@ -60,7 +53,8 @@ fn comp_r(h: &mut [f64], mem: &mut [f64], scr: &mut [f64], e: &[f64], tab: &[f64
 fn comp_s(
     h: &mut [f64],
     mem: &mut [f64],
-    scr: &mut [f64],
+    scr: &mut Scratch,
+    f: &[f64],
     e: &[f64],
     tab: &[f64],
     g: Turn,
@@ -68,26 +62,19 @@ fn comp_s(
     p: Spot,
 )
     requires fit { Fit g e.now tab.now mem.old h.old }
-    requires s_lt_n { (p.s < g.s.n) × (p.t < g.t.n) × (length scr.old ≡ 2048) }
+    requires s_lt_n { (p.s < g.s.n) × (p.t < g.t.n) × (g.r.n ≤ length f.now) }
     requires n_bound { (p.q + g.r.n ≤ g.count) × (p.bs + g.r.n ≤ g.count) × (p.bt + g.r.n ≤ g.count) }
     requires next_run { NextRun g.r tab.now run }
-    ensures span { Span (λ i. field_h g.s g.t g.r g.count e.now tab.now mem.old (p.q + i) p.t i (p.bt + i) (p.q + next_of i g.r.n) (get_or scr.old (1536 + i) nan) h.old) h.old (g.s.at + p.q) 0 g.r.n h.new }
+    ensures span { Span (λ i. field_h g.s g.t g.r g.count e.now tab.now mem.old (p.q + i) p.t i (p.bt + i) (p.q + next_of i g.r.n) (get_or f.now i nan) h.old) h.old (g.s.at + p.q) 0 g.r.n h.new }
     ensures two { Two (λ i. first_h g.s g.t g.r g.count e.now tab.now mem.old (p.q + i) p.t i (p.bt + i) (p.q + next_of i g.r.n)) (λ i. second_h g.s g.t g.r g.count e.now tab.now mem.old (p.q + i) p.t i (p.bt + i) (p.q + next_of i g.r.n)) mem.old (g.s.mem + p.q) (g.s.mem + g.count + p.q) 0 g.r.n mem.new }
-    ensures top { Top scr.old 1536 scr.new }
 {
     if turns::has_next(g.t, p.t) {
-        let b = turns::across(
-            tab,
-            g.t,
-            p.t,
-            0,
-            run.end,
-            g.r.at + p.q,
-            g.r.at + p.bt,
-            g.s.mem + p.q,
-        );
-        let c = turns::along(g.r, run, g.t.at + p.q, g.s.mem + g.count + p.q);
-        row::row(h, mem, scr, e, tab, g.s.at + p.q, g.r.n, run.end, b, c);
+        let z = run.end;
+        let m = g.s.mem + p.q;
+        let k = g.s.mem + g.count + p.q;
+        let b = turns::across(tab, g.t, p.t, 0, z, g.r.at + p.q, g.r.at + p.bt, m);
+        let c = turns::along(g.r, run, g.t.at + p.q, k);
+        row::row(h, mem, scr, f, e, tab, g.s.at + p.q, g.r.n, z, b, c);
     }
 }
 
@@ -95,7 +82,8 @@ fn comp_s(
 fn comp_t(
     h: &mut [f64],
     mem: &mut [f64],
-    scr: &mut [f64],
+    scr: &mut Scratch,
+    f: &[f64],
     e: &[f64],
     tab: &[f64],
     g: Turn,
@@ -103,26 +91,19 @@ fn comp_t(
     p: Spot,
 )
     requires fit { Fit g e.now tab.now mem.old h.old }
-    requires s_lt_n { (p.s < g.s.n) × (p.t < g.t.n) × (length scr.old ≡ 2048) }
+    requires s_lt_n { (p.s < g.s.n) × (p.t < g.t.n) × (g.r.n ≤ length f.now) }
     requires n_bound { (p.q + g.r.n ≤ g.count) × (p.bs + g.r.n ≤ g.count) × (p.bt + g.r.n ≤ g.count) }
     requires next_run { NextRun g.r tab.now run }
-    ensures span { Span (λ i. field_h g.t g.r g.s g.count e.now tab.now mem.old (p.q + i) i p.s (p.q + next_of i g.r.n) (p.bs + i) (get_or scr.old (1536 + i) nan) h.old) h.old (g.t.at + p.q) 0 g.r.n h.new }
+    ensures span { Span (λ i. field_h g.t g.r g.s g.count e.now tab.now mem.old (p.q + i) i p.s (p.q + next_of i g.r.n) (p.bs + i) (get_or f.now i nan) h.old) h.old (g.t.at + p.q) 0 g.r.n h.new }
     ensures two { Two (λ i. first_h g.t g.r g.s g.count e.now tab.now mem.old (p.q + i) i p.s (p.q + next_of i g.r.n) (p.bs + i)) (λ i. second_h g.t g.r g.s g.count e.now tab.now mem.old (p.q + i) i p.s (p.q + next_of i g.r.n) (p.bs + i)) mem.old (g.t.mem + p.q) (g.t.mem + g.count + p.q) 0 g.r.n mem.new }
-    ensures top { Top scr.old 1536 scr.new }
 {
     if turns::has_next(g.s, p.s) {
-        let b = turns::along(g.r, run, g.s.at + p.q, g.t.mem + p.q);
-        let c = turns::across(
-            tab,
-            g.s,
-            p.s,
-            0,
-            run.end,
-            g.r.at + p.q,
-            g.r.at + p.bs,
-            g.t.mem + g.count + p.q,
-        );
-        row::row(h, mem, scr, e, tab, g.t.at + p.q, g.r.n, run.end, b, c);
+        let z = run.end;
+        let m = g.t.mem + p.q;
+        let k = g.t.mem + g.count + p.q;
+        let b = turns::along(g.r, run, g.s.at + p.q, m);
+        let c = turns::across(tab, g.s, p.s, 0, z, g.r.at + p.q, g.r.at + p.bs, k);
+        row::row(h, mem, scr, f, e, tab, g.t.at + p.q, g.r.n, z, b, c);
     }
 }
 
@@ -130,7 +111,8 @@ fn comp_t(
 fn line(
     h: &mut [f64],
     mem: &mut [f64],
-    scr: &mut [f64],
+    scr: &mut Scratch,
+    f: &mut [f64],
     e: &[f64],
     media: &[f64],
     tab: &[f64],
@@ -141,25 +123,25 @@ fn line(
     t: usize,
 )
     requires fit { Fit g e.now tab.now mem.old h.old }
-    requires laid { Laid g }
     requires next_run { NextRun g.r tab.now run }
-    requires s_lt_n { (s < g.s.n) × (t < g.t.n) × (length scr.old ≡ 2048) × (g.count + g.count ≤ length media.now) }
+    requires s_lt_n { (s < g.s.n) × (t < g.t.n) × (g.r.n ≤ length f.old) × (g.count + g.count ≤ length media.now) }
     ensures { Carried mu0 g e.now media.now tab.now s t h.old mem.old h.new mem.new }
 {
     let bs = turns::next_of(s, g.s.n);
     let bt = turns::next_of(t, g.t.n);
     let p = turns::find_spot(g, s, t, bs, bt);
-    row::factors(scr, media, g.count + p.q, g.r.n, g.dt, mu0);
-    comp_r(h, mem, scr, e, tab, g, p);
-    comp_s(h, mem, scr, e, tab, g, run, p);
-    comp_t(h, mem, scr, e, tab, g, run, p);
+    row::factors(f, media, g.count + p.q, g.r.n, g.dt, mu0);
+    comp_r(h, mem, scr, f, e, tab, g, p);
+    comp_s(h, mem, scr, f, e, tab, g, run, p);
+    comp_t(h, mem, scr, f, e, tab, g, run, p);
 }
 
 // All rows.
 fn sweep(
     h: &mut [f64],
     mem: &mut [f64],
-    scr: &mut [f64],
+    scr: &mut Scratch,
+    f: &mut [f64],
     e: &[f64],
     media: &[f64],
     tab: &[f64],
@@ -168,19 +150,14 @@ fn sweep(
     run: Run,
 )
     requires fit { Fit g e.now tab.now mem.old h.old }
-    requires laid { Laid g }
     requires next_run { NextRun g.r tab.now run }
-    requires scr_len { (length scr.old ≡ 2048) × (g.count + g.count ≤ length media.now) }
+    requires f_len { (g.r.n ≤ length f.old) × (g.count + g.count ≤ length media.now) }
     ensures { Swept mu0 g e.now media.now tab.now h.old mem.old (g.t.n * g.s.n) h.new mem.new }
 {
-    let mut t = 0usize;
-    while t < g.t.n {
-        let mut s = 0usize;
-        while s < g.s.n {
-            line(h, mem, scr, e, media, tab, mu0, g, run, s, t);
-            s += 1usize;
+    for t in 0..g.t.n {
+        for s in 0..g.s.n {
+            line(h, mem, scr, f, e, media, tab, mu0, g, run, s, t);
         }
-        t += 1usize;
     }
 }
 
@@ -203,17 +180,21 @@ fn step_along(
     g: Turn,
 )
     requires fit { Fit g e.now tab.now mem.old h.old }
-    requires laid { Laid g }
     requires count_in_bounds { g.count + g.count ≤ length media.now }
     ensures { Swept mu0 g e.now media.now tab.now h.old mem.old (g.t.n * g.s.n) h.new mem.new }
 {
     if g.r.n < single::SHORT {
         short::sweep_cells(h, mem, e, media, tab, mu0, g);
     } else {
-        let mut scr = [0.0; 2048];
+        let mut scr = Scratch {
+            first: [0.0; 512],
+            second: [0.0; 512],
+            curl: [0.0; 512],
+        };
+        let mut f = [0.0; 512];
         let end = reach(g.r.n, g.r.wraps);
         let run = turns::find_lull(tab, g.r, 0, end);
-        sweep(h, mem, &mut scr, e, media, tab, mu0, g, run);
+        sweep(h, mem, &mut scr, &mut f, e, media, tab, mu0, g, run);
     }
 }
 

@@ -2,13 +2,13 @@
 ghost use Rattle.std.specs.Prelude.{◌+◌, ◌*◌, ◌≤◌, ◌<◌, length};
 ghost use Rattle.fdtd.specs.Axes.{next_of, has_next};
 ghost use Rattle.fdtd.specs.Inner.Begun.{Known, StoredBy, Near};
-ghost use Rattle.fdtd.specs.Inner.Turns.{Fit, Laid};
+ghost use Rattle.fdtd.specs.Inner.Turns.{Fit};
 ghost use Rattle.magnetic.specs.Inner.Celled.{rule_h, Moving};
 ghost use Rattle.magnetic.specs.Inner.Swept.{Swept, Carried};
 
 use fdtd::single::Shared;
 use fdtd::turns::Turn;
-use fdtd::{Coef, rows, single, turns};
+use fdtd::{Coef, single, turns};
 
 // The component along r of a cell, with the cells us and ut after it.
 fn component(
@@ -49,7 +49,6 @@ fn cell(
     i: usize,
 )
     requires fit { Fit g e.now tab.now mem.old h.old }
-    requires laid { Laid g }
     requires known { Known g tab.now s t (next_of s g.s.n) (next_of t g.t.n) (has_next g.s s) (has_next g.t t) v }
     requires i_lt_n { (i < g.r.n) × (g.count + g.count ≤ length media.now) }
     ensures { Moving mu0 g e.now media.now tab.now s t i h.old mem.old h.new mem.new }
@@ -59,11 +58,11 @@ fn cell(
     let ut = v.bt + i;
     let ur = v.q + turns::next_of(i, g.r.n);
     let gor = turns::has_next(g.r, i);
-    let kr = single::coef_of(tab, g.r, i);
-    let f = update::factor_of(g.dt, mu0, rows::at(media, g.count, c));
-    let go_r = single::both(v.gos, v.got);
-    let go_s = single::both(v.got, gor);
-    let go_t = single::both(gor, v.gos);
+    let kr = turns::coef_of(tab, g.r, i);
+    let f = update::factor_of(g.dt, mu0, media[g.count + c]);
+    let go_r = v.gos & v.got;
+    let go_s = v.got & gor;
+    let go_t = gor & v.gos;
     let gs = turns::turned(g);
     let gt = turns::turned(gs);
     component(h, mem, e, g, c, us, ut, go_r, f, v.ks, v.kt);
@@ -84,7 +83,6 @@ fn cells_of_row(
     t: usize,
 )
     requires fit { Fit g e.now tab.now mem.old h.old }
-    requires laid { Laid g }
     requires s_lt_n { (s < g.s.n) × (t < g.t.n) × (g.count + g.count ≤ length media.now) }
     ensures { Carried mu0 g e.now media.now tab.now s t h.old mem.old h.new mem.new }
 {
@@ -93,10 +91,8 @@ fn cells_of_row(
     let gos = turns::has_next(g.s, s);
     let got = turns::has_next(g.t, t);
     let v = single::find_shared(tab, g, s, t, bs, bt, gos, got);
-    let mut i = 0usize;
-    while i < g.r.n {
+    for i in 0..g.r.n {
         cell(h, mem, e, media, tab, mu0, g, v, s, t, i);
-        i += 1usize;
     }
 }
 
@@ -111,17 +107,12 @@ pub fn sweep_cells(
     g: Turn,
 )
     requires fit { Fit g e.now tab.now mem.old h.old }
-    requires laid { Laid g }
     requires count_in_bounds { g.count + g.count ≤ length media.now }
     ensures { Swept mu0 g e.now media.now tab.now h.old mem.old (g.t.n * g.s.n) h.new mem.new }
 {
-    let mut t = 0usize;
-    while t < g.t.n {
-        let mut s = 0usize;
-        while s < g.s.n {
+    for t in 0..g.t.n {
+        for s in 0..g.s.n {
             cells_of_row(h, mem, e, media, tab, mu0, g, s, t);
-            s += 1usize;
         }
-        t += 1usize;
     }
 }

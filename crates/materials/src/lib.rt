@@ -68,7 +68,7 @@ fn put_material(r: Record, b: IndexBox, id: u32, media: &mut [f64], ids: &mut [u
     let at = id as usize;
     let m = r.materials[at];
     set_media(media, r.nx, r.ny, r.nz, b, m.eps_inf, m.mu_r, m.sigma);
-    cells::fill_box_ids(ids, 0, r.nx, r.ny, r.nz, b, id);
+    cells::fill_box(ids, 0, r.nx, r.ny, r.nz, b, id);
 }
 
 fn put_into(r: Record, b: IndexBox, what: Put, media: &mut [f64], ids: &mut [u32])

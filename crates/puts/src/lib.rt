@@ -31,7 +31,7 @@ fn put_floats(out: &mut [u8], at: usize, mark: u16, xs: &[f64]) -> usize
 {
     let n = 8 * xs.len();
     frame::put_frame(out, at, mark, n as u32);
-    stores::put_f64s(out, at + 6, xs);
+    stores::put_all(out, at + 6, xs);
     at + (6 + n)
 }
 
@@ -41,7 +41,7 @@ fn put_ids(out: &mut [u8], at: usize, ids: &[u32]) -> usize
 {
     let n = 4 * ids.len();
     frame::put_frame(out, at, CI, n as u32);
-    stores::put_u32s(out, at + 6, ids);
+    stores::put_all(out, at + 6, ids);
     at + (6 + n)
 }
 
@@ -97,7 +97,7 @@ fn put_memory<'a>(
     ensures { out.new ≡ put out.old at (floats_bytes (memory_of which psi_e.now psi_h.now n)) }
 {
     let m = memory::psi(which, psi_e, psi_h, n);
-    stores::put_f64s(out, at, m);
+    stores::put_all(out, at, m);
 }
 
 // The six memories of the electric or of the magnetic field, in their order: the whole store.

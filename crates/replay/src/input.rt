@@ -68,13 +68,13 @@ fn read_part(rt: &HostRuntime, b: &mut [u8], size: usize) -> bool
 fn floats_of(b: &[u8; 6912], xs: &mut [f64])
     requires { 8 * length xs.old ≤ 6912 }
 {
-    stores::get_f64s(b, 0, xs);
+    stores::get_all(b, 0, xs);
 }
 
 fn ids_of(b: &[u8; 6912], ns: &mut [u32])
     requires { 4 * length ns.old ≤ 6912 }
 {
-    stores::get_u32s(b, 0, ns);
+    stores::get_all(b, 0, ns);
 }
 
 pub fn read_floats(rt: &HostRuntime, xs: &mut [f64]) -> bool {

@@ -7,10 +7,9 @@ use native.Mathlib.Omega.{arith}
 use mathlib.Core.Bool.{Bool, true, false, true≢false}
 use lib.IntN.{ℤ, pos}
 use lib.Dec.{T, eqb, eqb→eq, ltb→lt, lt→ltb}
-use lib.Ieee.{Float, nan, inf, fin, binary64, up, down, eq, ne, lt, div, of_bits}
+use lib.Ieee.{Float, nan, inf, fin, binary64, up, down, is_nan, eq, lt, of_bits}
 use lib.Ieee.Fits.{and_i, and_l, up_pos, eq→eqb}
 use denote.Floats.{passes}
-use lib.Ieee.Compare.{differs_from_itself}
 use lib.Ieee.Positive.{positive}
 use Rattle.root.specs.Root.{NearestRoot, IsRoot}
 
@@ -19,17 +18,19 @@ zero_is : of_bits binary64 0 ≡ fin false 0 (pos 0)
 unfolding of_bits
 zero_is = refl
 
-nan_is : div binary64 (of_bits binary64 0) (of_bits binary64 0) ≡ nan
-unfolding div of_bits
+nan_is : of_bits binary64 0x7FF8000000000000 ≡ nan
+unfolding of_bits
 nan_is = refl
 
-inf_is : div binary64 (of_bits binary64 0x3FF0000000000000) (of_bits binary64 0) ≡ inf false
-unfolding div of_bits
+inf_is : of_bits binary64 0x7FF0000000000000 ≡ inf false
+unfolding of_bits
 inf_is = refl
 
--- x != x
-pub at_nan : (x : Float) → ne x x ≡ true → IsRoot x x
-at_nan x h = let e = differs_from_itself x (passes (ne x x) h) in subst (λ (y : Float). IsRoot y y) (sym e) refl
+pub at_nan : (x : Float) → is_nan x ≡ true → IsRoot x x
+unfolding is_nan
+at_nan nan h = refl
+at_nan (inf s) h = absurd (true≢false (sym h))
+at_nan (fin s m e) h = absurd (true≢false (sym h))
 
 -- x == 0.0
 grow : (m : ℕ) (e : ℤ) → m * up e * 1 ≡ zero * 1 * down e → m ≡ zero
@@ -66,7 +67,7 @@ negative_by (fin false m e) h = absurd (no (m * up e * 1) (down e) (ltb→lt (m 
     no : (a d : ℕ) → a < 0 * 1 * d → ⊥
     no a d k = let z : 0 * 1 * d ≡ 0 = zero-mul d in omega arith
 
-pub at_negative : (x : Float) → lt x (of_bits binary64 0) ≡ true → IsRoot x (div binary64 (of_bits binary64 0) (of_bits binary64 0))
+pub at_negative : (x : Float) → lt x (of_bits binary64 0) ≡ true → IsRoot x (of_bits binary64 0x7FF8000000000000)
 at_negative x h = subst (λ (y : Float). IsRoot x y) (sym nan_is) (negative_by x (subst (λ (y : Float). T (lt x y)) zero_is (passes (lt x (of_bits binary64 0)) h)))
 
 -- x is the infinity
@@ -77,8 +78,8 @@ inf_by (inf true) h = absurd h
 inf_by (inf false) h = refl
 inf_by (fin s m e) h = absurd h
 
-pub at_inf : (x : Float) → eq x (div binary64 (of_bits binary64 0x3FF0000000000000) (of_bits binary64 0)) ≡ true → IsRoot x x
-at_inf x h = inf_by x (subst T (ap (eq x) inf_is) (passes (eq x (div binary64 (of_bits binary64 0x3FF0000000000000) (of_bits binary64 0))) h))
+pub at_inf : (x : Float) → eq x (of_bits binary64 0x7FF0000000000000) ≡ true → IsRoot x x
+at_inf x h = inf_by x (subst T (ap (eq x) inf_is) (passes (eq x (of_bits binary64 0x7FF0000000000000)) h))
 
 -- and what is left
 refuse : (b : Bool) → T b → b ≡ false → ⊥
@@ -95,8 +96,8 @@ level_zero a d =
 positive_sum : (a d : ℕ) → 0 < a → 0 < a * 1 + 0 * 1 * d
 positive_sum a d h = omega arith
 
-left_over : (x : Float) → ne x x ≡ false → eq x (fin false 0 (pos 0)) ≡ false → lt x (fin false 0 (pos 0)) ≡ false → eq x (inf false) ≡ false → T (positive x)
-unfolding ne eq lt
+left_over : (x : Float) → is_nan x ≡ false → eq x (fin false 0 (pos 0)) ≡ false → lt x (fin false 0 (pos 0)) ≡ false → eq x (inf false) ≡ false → T (positive x)
+unfolding is_nan eq lt
 left_over nan a b c d = absurd (true≢false a)
 left_over (inf true) a b c d = absurd (true≢false c)
 left_over (inf false) a b c d = absurd (true≢false d)
@@ -105,7 +106,7 @@ left_over (fin true (suc m) e) a b c d = absurd (refuse _ (lt→ltb 0 (suc m * u
 left_over (fin false zero e) a b c d = let l = level_zero (up e) (down e) in absurd (refuse _ (and_i (eqb (zero * up e * 1) (0 * 1 * down e)) true l.0 tt) b)
 left_over (fin false (suc m) e) a b c d = lt→ltb 0 (suc m) (zero-lt-suc m)
 
-pub rest : (x : Float) → ne x x ≡ false → eq x (of_bits binary64 0) ≡ false → lt x (of_bits binary64 0) ≡ false → eq x (div binary64 (of_bits binary64 0x3FF0000000000000) (of_bits binary64 0)) ≡ false → T (positive x)
+pub rest : (x : Float) → is_nan x ≡ false → eq x (of_bits binary64 0) ≡ false → lt x (of_bits binary64 0) ≡ false → eq x (of_bits binary64 0x7FF0000000000000) ≡ false → T (positive x)
 rest x a b c d = left_over x a (ap (eq x) (sym zero_is) ∙ b) (ap (lt x) (sym zero_is) ∙ c) (ap (eq x) (sym inf_is) ∙ d)
 
 pub at_positive : (x r : Float) → T (positive x) → NearestRoot x r → IsRoot x r

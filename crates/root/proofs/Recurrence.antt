@@ -15,9 +15,6 @@ pub record Taken (a q r w i : ℕ) : Type 0 where
   pub small : q < 2 ^ i
   pub same : a * 4 ^ i ≡ (q * q + r) * 2 ^ 54 + w
 
-pub start : (a : ℕ) → a < 2 ^ 54 → Taken a 0 0 a 0
-start a h = record { upto = omega arith; rest = h; left = omega arith; small = omega arith; same = omega arith }
-
 shift : (X Q r w : ℕ) → X ≡ (Q + r) * 2 ^ 54 + w → X * 4 ≡ (Q * 4 + (r * 4 + w / 2 ^ 52)) * 2 ^ 54 + w % 2 ^ 52 * 4
 shift X Q r w h = omega arith
 

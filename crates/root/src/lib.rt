@@ -9,10 +9,10 @@ ghost use Rattle.root.specs.Root.{NearestRoot, Rooted};
 ghost use Rattle.root.specs.Inner.Steps.{Floor, Scale, units_of};
 ghost use Rattle.root.specs.Courant.{courant_root, courant_number, courant_limit, stable};
 
+use std::f64::consts::PI;
+
 // 2^52: the weight of a double's exponent field, and of its leading digit.
 const LEAD: u64 = 4503599627370496;
-
-const PI: f64 = 3.141592653589793;
 
 // Vacuum permittivity (F/m) and permeability (H/m), and the speed of light (m/s) that they give:
 // the contracts in vacuum.rt say which double each one is.
@@ -54,8 +54,7 @@ fn digits(a: u64) -> u64
     let mut q: u64 = 0;
     let mut r: u64 = 0;
     let mut w: u64 = a;
-    let mut i: u64 = 0;
-    while i < 54 {
+    for _ in 0..54u64 {
         let s = r * 4 + w / LEAD;
         let t = q * 4 + 1;
         w = w % LEAD * 4;
@@ -66,7 +65,6 @@ fn digits(a: u64) -> u64
             r = s;
             q = q * 2;
         }
-        i += 1;
     }
     q
 }
@@ -82,13 +80,11 @@ fn scale_up(field: u64, low: u64) -> Scaled
             k: field + 51,
         };
     }
-    let mut m = low;
-    let mut k: u64 = 52;
-    while m < LEAD {
-        m = m * 2;
-        k = k - 1;
+    let shift = low.leading_zeros() - 11;
+    Scaled {
+        m: low << shift,
+        k: 52 - shift as u64,
     }
-    Scaled { m, k }
 }
 
 // The root with one digit to spare, rounded to 53 by that digit. An odd exponent lends the
@@ -106,17 +102,11 @@ fn of_positive(x: f64) -> f64
 pub fn root(x: f64) -> f64
     ensures { Rooted x result }
 {
-    if x != x {
-        return x;
-    }
-    if x == 0.0 {
+    if x.is_nan() || x == 0.0 || x == f64::INFINITY {
         return x;
     }
     if x < 0.0 {
-        return 0.0 / 0.0;
-    }
-    if x == 1.0 / 0.0 {
-        return x;
+        return f64::NAN;
     }
     of_positive(x)
 }

@@ -2,21 +2,20 @@
 #![tactic(auto)]
 
 ghost use Rattle.std.specs.Prelude.{◌≡◌, ◌+◌, ◌≤◌, length};
+ghost use Rattle.refusals.specs.Refusals.{code, value_or};
 ghost use Rattle.grid.specs.Edited.{with_clock};
 ghost use Rattle.grid.specs.Stores.{stores, outcome};
 ghost use Rattle.step.specs.Step.{last_step};
 ghost use Rattle.step.specs.Inner.Ready.{StepReady};
 ghost use Rattle.run.specs.Run.{ran, run_call};
 
-use grid::stores::Lengths;
-use grid::{Clock, Record};
-use step::Moved;
+use grid::{Clock, Record, stores};
+use refusals::Refusal;
+use root::vacuum::Vacuum;
 
 // The steps of a study without fault, and the clock after them.
 fn advance_all(
-    eps0: f64,
-    mu0: f64,
-    c0: f64,
+    vacuum: Vacuum,
     r: Record,
     samples: &[f64],
     e: &mut [f64],
@@ -31,26 +30,21 @@ fn advance_all(
 ) -> Clock
     requires step_ready { StepReady r (stores e.old h.old media.now psi_e.old psi_h.old tables.now poles.old aux.old ids.now) }
     requires samples_bound { r.clock.steps + length samples.now ≤ last_step }
-    ensures { outcome 0 (with_clock r result) (stores e.new h.new media.now psi_e.new psi_h.new tables.now poles.new aux.new ids.now) ≡ ran eps0 mu0 c0 r samples.now (stores e.old h.old media.now psi_e.old psi_h.old tables.now poles.old aux.old ids.now) }
+    ensures { outcome 0 (with_clock r result) (stores e.new h.new media.now psi_e.new psi_h.new tables.now poles.new aux.new ids.now) ≡ ran vacuum.eps0 vacuum.mu0 vacuum.c0 r samples.now (stores e.old h.old media.now psi_e.old psi_h.old tables.now poles.old aux.old ids.now) }
 {
     let mut q = r;
-    let mut i = 0usize;
-    while i < samples.len() {
-        let x = samples[i];
-        let clock = step::advance(
-            eps0, mu0, c0, q, x, e, h, media, psi_e, psi_h, tables, poles, aux, ids,
+    for x in samples {
+        q.clock = step::advance(
+            vacuum, q, *x, e, h, media, psi_e, psi_h, tables, poles, aux, ids,
         );
-        q.clock = clock;
-        i += 1usize;
     }
     q.clock
 }
 
 // A step for each sample.
+#[tactic(auto, unfolding(crate::specs::Run::run_call), using(step::proofs::Judged::ready, grid::proofs::Settled::turned_down, grid::proofs::Settled::taken_up, refusals::proofs::Numbers::stands_in))]
 pub fn run(
-    eps0: f64,
-    mu0: f64,
-    c0: f64,
+    vacuum: Vacuum,
     r: Record,
     samples: &[f64],
     e: &mut [f64],
@@ -62,27 +56,13 @@ pub fn run(
     poles: &mut [f64],
     aux: &mut [f64],
     ids: &[u32],
-) -> Moved
-    ensures { outcome result.refusal (with_clock r result.clock) (stores e.new h.new media.now psi_e.new psi_h.new tables.now poles.new aux.new ids.now) ≡ run_call eps0 mu0 c0 r samples.now (stores e.old h.old media.now psi_e.old psi_h.old tables.now poles.old aux.old ids.now) }
+) -> Result<Clock, Refusal>
+    ensures { outcome (code result) (with_clock r (value_or r.clock result)) (stores e.new h.new media.now psi_e.new psi_h.new tables.now poles.new aux.new ids.now) ≡ run_call vacuum.eps0 vacuum.mu0 vacuum.c0 r samples.now (stores e.old h.old media.now psi_e.old psi_h.old tables.now poles.old aux.old ids.now) }
 {
-    let l = Lengths {
-        electric: e.len(),
-        magnetic: h.len(),
-        media: media.len(),
-        psi_e: psi_e.len(),
-        psi_h: psi_h.len(),
-        tables: tables.len(),
-        poles: poles.len(),
-        aux: aux.len(),
-        ids: ids.len(),
-    };
-    let f = due::step_fault(r, l, ids, samples.len());
-    if f != 0 {
-        let clock = r.clock;
-        return Moved { refusal: f, clock };
-    }
-    let clock = advance_all(
-        eps0, mu0, c0, r, samples, e, h, media, psi_e, psi_h, tables, poles, aux, ids,
+    let lent = stores::lengths_of(e, h, media, psi_e, psi_h, tables, poles, aux, ids);
+    due::step_fault(r, lent, ids, samples.len())?;
+    let moved = advance_all(
+        vacuum, r, samples, e, h, media, psi_e, psi_h, tables, poles, aux, ids,
     );
-    Moved { refusal: 0, clock }
+    Ok(moved)
 }

@@ -1,11 +1,12 @@
 // The study that a save without fault says.
 ghost use Rattle.std.specs.Prelude.{◌≡◌, ◌+◌, ◌*◌, ◌≤◌, length, drop};
-ghost use Rattle.codec.specs.Bytes.{floats_of, ids_of};
+ghost use Rattle.codec.specs.Bytes.{elements_of};
 ghost use Rattle.grid.specs.Stores.{stores, lengths_of};
 ghost use Rattle.format.specs.Rewind.{is_old, bytes_fault, read_record};
 ghost use Rattle.saves.specs.Inner.Places.{entries_from, stores_from, stores_at};
 
 use codec::stores;
+use codec::stores::Element;
 use grid::Record;
 use heads::{ML_LENGTH, OLD_LENGTH};
 use puts::ENTRIES_PLACE;
@@ -39,23 +40,14 @@ pub fn stores_from(b: &[u8], materials: usize) -> usize
     at + ML_LENGTH * materials
 }
 
-// A store of floats from its record that begins at `at`; the place after it.
-fn get_floats(b: &[u8], at: usize, s: &mut [f64]) -> usize
-    requires { at + (6 + 8 * length s.old) ≤ length b.now }
-    ensures next { result ≡ at + (6 + 8 * length s.old) }
-    ensures store { s.new ≡ floats_of (length s.old) (drop (at + 6) b.now) }
+// A store from its record that begins at `at`; the place after it.
+fn get_store<T: Element>(b: &[u8], at: usize, s: &mut [T]) -> usize
+    requires { at + (6 + T.WIDTH * length s.old) ≤ length b.now }
+    ensures next { result ≡ at + (6 + T.WIDTH * length s.old) }
+    ensures store { s.new ≡ elements_of T.WIDTH T.element (length s.old) (drop (at + 6) b.now) }
 {
-    stores::get_f64s(b, at + 6, s);
-    at + (6 + 8 * s.len())
-}
-
-fn get_ids(b: &[u8], at: usize, s: &mut [u32]) -> usize
-    requires { at + (6 + 4 * length s.old) ≤ length b.now }
-    ensures next { result ≡ at + (6 + 4 * length s.old) }
-    ensures store { s.new ≡ ids_of (length s.old) (drop (at + 6) b.now) }
-{
-    stores::get_u32s(b, at + 6, s);
-    at + (6 + 4 * s.len())
+    stores::get_all(b, at + 6, s);
+    at + (6 + T::WIDTH * s.len())
 }
 
 // The nine stores, from the records that begin at `at`.
@@ -75,13 +67,13 @@ pub fn get_stores(
     requires { at + (54 + 4 * length ids.old + 8 * length media.old + 8 * length e.old + 8 * length h.old + 8 * length psi_e.old + 8 * length psi_h.old + 8 * length tables.old + 8 * length poles.old + 8 * length aux.old) ≤ length b.now }
     ensures { stores e.new h.new media.new psi_e.new psi_h.new tables.new poles.new aux.new ids.new ≡ stores_at (lengths_of (stores e.old h.old media.old psi_e.old psi_h.old tables.old poles.old aux.old ids.old)) b.now at }
 {
-    let at = get_ids(b, at, ids);
-    let at = get_floats(b, at, media);
-    let at = get_floats(b, at, e);
-    let at = get_floats(b, at, h);
-    let at = get_floats(b, at, psi_e);
-    let at = get_floats(b, at, psi_h);
-    let at = get_floats(b, at, tables);
-    let at = get_floats(b, at, poles);
-    get_floats(b, at, aux);
+    let at = get_store(b, at, ids);
+    let at = get_store(b, at, media);
+    let at = get_store(b, at, e);
+    let at = get_store(b, at, h);
+    let at = get_store(b, at, psi_e);
+    let at = get_store(b, at, psi_h);
+    let at = get_store(b, at, tables);
+    let at = get_store(b, at, poles);
+    get_store(b, at, aux);
 }

@@ -2,26 +2,19 @@
 #![tactic(auto)]
 
 ghost use Rattle.std.specs.Prelude.{◌≡◌, ◌<◌};
+ghost use Rattle.refusals.specs.Refusals.{code, value_or};
 ghost use Rattle.grid.specs.Edited.{with_clock};
 ghost use Rattle.grid.specs.Stores.{stores, outcome};
 ghost use Rattle.step.specs.Step.{stepped, ticked, last_step, step_call};
 ghost use Rattle.step.specs.Inner.Ready.{StepReady};
 
-use grid::stores::Lengths;
-use grid::{Clock, Record};
-
-// The refusal's number, 0 where the call was accepted, and the clock after it: nothing else of a record moves in a step.
-#[derive(Clone, Copy)]
-pub struct Moved {
-    pub refusal: u32,
-    pub clock: Clock,
-}
+use grid::{Clock, Record, stores};
+use refusals::Refusal;
+use root::vacuum::Vacuum;
 
 // A step of a study without fault, and the clock after it.
 pub fn advance(
-    eps0: f64,
-    mu0: f64,
-    c0: f64,
+    vacuum: Vacuum,
     r: Record,
     sample: f64,
     e: &mut [f64],
@@ -37,21 +30,19 @@ pub fn advance(
     requires step_ready { StepReady r (stores e.old h.old media.now psi_e.old psi_h.old tables.now poles.old aux.old ids.now) }
     requires steps_lt_last_step { r.clock.steps < last_step }
     ensures value { result ≡ (ticked r).clock }
-    ensures ids_after { stores e.new h.new media.now psi_e.new psi_h.new tables.now poles.new aux.new ids.now ≡ stepped eps0 mu0 c0 r sample (stores e.old h.old media.now psi_e.old psi_h.old tables.now poles.old aux.old ids.now) }
+    ensures ids_after { stores e.new h.new media.now psi_e.new psi_h.new tables.now poles.new aux.new ids.now ≡ stepped vacuum.eps0 vacuum.mu0 vacuum.c0 r sample (stores e.old h.old media.now psi_e.old psi_h.old tables.now poles.old aux.old ids.now) }
 {
-    halves::magnetic_half(mu0, r, e, h, media, psi_h, tables, aux);
-    halves::electric_half(
-        eps0, c0, r, sample, e, h, media, psi_e, tables, poles, aux, ids,
+    halves::magnetic_half(vacuum.mu0, r, e, h, media, psi_h, tables, aux);
+    halves::electric_half(vacuum.eps0, vacuum.c0, r, sample, e, h, media, psi_e, tables, poles, aux, ids,
     );
     due::tick(r)
 }
 
 // Moves a study on by one step, from the clock that is handed in beside the record. The sample is what the wave's source gives at time + dt.
+#[tactic(auto, unfolding(crate::specs::Step::step_call), using(crate::proofs::Judged::ready, grid::proofs::Settled::turned_down, grid::proofs::Settled::taken_up, refusals::proofs::Numbers::stands_in))]
 pub fn step(
     clock: Clock,
-    eps0: f64,
-    mu0: f64,
-    c0: f64,
+    vacuum: Vacuum,
     r: Record,
     sample: f64,
     e: &mut [f64],
@@ -63,31 +54,14 @@ pub fn step(
     poles: &mut [f64],
     aux: &mut [f64],
     ids: &[u32],
-) -> Moved
-    ensures { outcome result.refusal (with_clock r result.clock) (stores e.new h.new media.now psi_e.new psi_h.new tables.now poles.new aux.new ids.now) ≡ step_call eps0 mu0 c0 (with_clock r clock) sample (stores e.old h.old media.now psi_e.old psi_h.old tables.now poles.old aux.old ids.now) }
+) -> Result<Clock, Refusal>
+    ensures { outcome (code result) (with_clock r (value_or clock result)) (stores e.new h.new media.now psi_e.new psi_h.new tables.now poles.new aux.new ids.now) ≡ step_call vacuum.eps0 vacuum.mu0 vacuum.c0 (with_clock r clock) sample (stores e.old h.old media.now psi_e.old psi_h.old tables.now poles.old aux.old ids.now) }
 {
-    let mut q = r;
-    q.clock = clock;
-    let l = Lengths {
-        electric: e.len(),
-        magnetic: h.len(),
-        media: media.len(),
-        psi_e: psi_e.len(),
-        psi_h: psi_h.len(),
-        tables: tables.len(),
-        poles: poles.len(),
-        aux: aux.len(),
-        ids: ids.len(),
-    };
-    let f = due::step_fault(q, l, ids, 1);
-    if f != 0 {
-        return Moved { refusal: f, clock };
-    }
+    let q = Record { clock, ..r };
+    let lent = stores::lengths_of(e, h, media, psi_e, psi_h, tables, poles, aux, ids);
+    due::step_fault(q, lent, ids, 1)?;
     let moved = advance(
-        eps0, mu0, c0, q, sample, e, h, media, psi_e, psi_h, tables, poles, aux, ids,
+        vacuum, q, sample, e, h, media, psi_e, psi_h, tables, poles, aux, ids,
     );
-    Moved {
-        refusal: 0,
-        clock: moved,
-    }
+    Ok(moved)
 }

@@ -1,4 +1,6 @@
 -- The region in which the total field stands, set as a slab, an injector or a box (tfsf.rs, `slab_z`, `injector_z`, `box_region`). Definitions only.
+use Rattle.refusals.specs.declared.Refusal.TheVariants.{BadRegion}
+use Rattle.refusals.specs.Refusals.{number}
 use Rattle.std.specs.Prelude.{ℕ, ◌-◌, List, eqb, length, Float}
 use Rattle.root.specs.Rounded.{zero_f}
 use Rattle.grid.specs.declared.RegionKind.TheVariants.{SlabZ, InjectorZ}
@@ -18,7 +20,7 @@ abbrev pub injector_z : Record → ℕ → Region
 injector_z r k0 = record { kind = InjectorZ; i0 = 0; i1 = r.nx - 1; j0 = 0; j1 = r.ny - 1; k0 = k0; k1 = r.nz - 1 }
 
 abbrev pub bad_region : ℕ
-bad_region = 9
+bad_region = number BadRegion
 
 unfoldable pub region_fault : Record → Region → (aux : ℕ) → ℕ
 region_fault r g n = or_else (fault_lent r (eqb n (store_lengths r).aux)) (first (corners_fit g r.nx r.ny r.nz) bad_region 0)

@@ -39,10 +39,8 @@ fn move_h(factor: f64, n: usize, line: &mut [f64])
     requires { Sized n line.old }
     ensures { Spanned (λ q. hy_inner factor n line.old (q - n)) n (n + (n - 1)) line.old line.new }
 {
-    let mut a = 0;
-    while a + 1 < n {
+    for a in 0..n - 1 {
         line[n + a] = leapfrog(factor, line[n + a], line[a + 1], line[a]);
-        a += 1;
     }
 }
 
@@ -50,10 +48,8 @@ fn move_e(factor: f64, n: usize, line: &mut [f64])
     requires { Sized n line.old }
     ensures { Spanned (ex_inner factor n line.old) 1 (n - 1) line.old line.new }
 {
-    let mut a = 1;
-    while a + 1 < n {
+    for a in 1..n - 1 {
         line[a] = leapfrog(factor, line[a], line[n + a], line[n + (a - 1)]);
-        a += 1;
     }
 }
 

@@ -1,9 +1,5 @@
-use Prim.Native.Nat.{◌-◌, ◌≤◌}
 use Rattle.ade.specs.Inner.Runs.{Changed, by_run}
 use Rattle.ade.proofs.run.Given as goal
 
 abbrev pub invariant-loop-s : goal.invariant-loop-s
-invariant-loop-s l = (l.s ≤ l.count) × Changed l.n l.a l.z (by_run l.co l.e l.n l.slots l.base l.s) l.initial.poles l.poles
-
-abbrev pub decreases-loop-s : goal.decreases-loop-s
-decreases-loop-s l = l.count - l.s
+invariant-loop-s l = Changed l.w.n l.w.a l.w.z (by_run l.k l.e l.w.n l.slots l.s) l.initial.poles l.poles

@@ -1,25 +1,24 @@
-use mathlib.Core.Path.{◌≡◌, subst}
-use Prim.Native.Nat.{ℕ}
-use native.Mathlib.Omega.{arith}
+use Rattle.std.proofs.Common.{◌≡◌, ℕ, subst, arith}
 use Rattle.ade.proofs.Columns.{changed_none, span_more}
-use Rattle.ade.specs.Inner.Runs.{Changed, by_span, coeffs}
+use Rattle.ade.specs.Inner.Runs.{Changed, by_span}
 use Rattle.ade.proofs.span.Goals as goal
 
 pub loop-m-init : goal.loop-m-init
-loop-m-init c = (omega arith, omega arith, changed_none _ _ _ _)
+loop-m-init c = changed_none _ _ _ _
 
 pub turn-requires : goal.turn-requires
-turn-requires c = let s = c.loop-m.invariant.2.same in (omega arith, omega arith, omega arith)
+turn-requires c = let s = c.loop-m.invariant.same in (omega arith, omega arith, omega arith)
 
 pub loop-m-preserved : goal.loop-m-preserved
 loop-m-preserved c =
-    let turn = c.loop-m in
-    let pre = c.requires in
-    let args = c.args in
-    (omega arith, omega arith, span_more (coeffs args.a1 args.a2 args.a3) args.e.now args.n args.c args.i args.j args.d args.a turn.m args.poles.now turn.poles _ turn.invariant.2 (omega arith) (omega arith) pre.n_in_bounds.0 pre.n_in_bounds.1 pre.n_in_bounds.2 c.turn.ensures)
+    let l = c.loop-m in
+    let pre = c.requires.n_in_bounds in
+    let a = c.args in
+    span_more a.k a.e.now a.w.n a.c a.i a.j a.d a.w.a l.m a.poles.now l.poles _ l.invariant (omega arith) (omega arith) pre.0 pre.1 pre.2 c.turn.ensures
 
 pub returns : goal.returns
 returns c =
-    let args = c.args in
-    let q : c.loop-m.m ≡ args.z = omega arith in
-    subst (λ (y : ℕ). Changed args.n args.a y (by_span (coeffs args.a1 args.a2 args.a3) args.e.now args.n args.c args.i args.j args.d) args.poles.now c.loop-m.poles) q c.loop-m.invariant.2
+    let a = c.args in
+    let l = c.loop-m in
+    let q : l.m ≡ a.w.z = omega arith in
+    subst (λ (y : ℕ). Changed a.w.n a.w.a y (by_span a.k a.e.now a.w.n a.c a.i a.j a.d) a.poles.now l.poles) q l.invariant

@@ -1,6 +1,6 @@
 -- How `advance` goes about it: by runs of cells of one material, each counted slot and component over the whole run, which moves three numbers of each cell
 -- on. Definitions only.
-use Rattle.std.specs.Prelude.{ℕ, zero, suc, ◌+◌, ◌*◌, ◌≤◌, ◌<◌, ◌≡◌, true, cond, List, eqb, length, get_or, set, Float}
+use Rattle.std.specs.Prelude.{ℕ, zero, suc, ◌+◌, ◌*◌, ◌≤◌, ◌<◌, ◌≡◌, true, cond, List, [], eqb, length, get_or, set, Float}
 use Rattle.std.specs.Float.{nan}
 use Rattle.root.specs.Rounded.{◌⊕◌, ◌⊖◌}
 use Rattle.dispersion.specs.declared.AdeCoeffs.{AdeCoeffs}
@@ -8,10 +8,11 @@ use Rattle.dispersion.specs.declared.DispersiveMaterial.{DispersiveMaterial}
 use Rattle.dispersion.specs.Ade.{ade_coeffs}
 use Rattle.dispersion.specs.Material.{pole_in}
 use Rattle.grid.specs.declared.Record.{Record}
-use Rattle.grid.specs.Fault.{pole_count, poles_fit}
+use Rattle.grid.specs.Fault.{material_at, poles_fit}
 use Rattle.grid.specs.Inner.Sound.{Sound}
 use Rattle.grid.specs.Stores.{number_at, cells}
-use Rattle.ade.specs.Polarization.{polarized, pole_at}
+use Rattle.ade.specs.declared.Stepped.{Stepped}
+use Rattle.ade.specs.Polarization.{polarized}
 
 -- what a caller has shown: a sound record of which no counted material has more poles than slots, stores of its lengths, and ids of counted materials
 pub record PolesReady (r : Record) (ids : List ℕ) (electric poles : List Float) : Type 0 where
@@ -22,31 +23,28 @@ pub record PolesReady (r : Record) (ids : List ℕ) (electric poles : List Float
   pub field : length electric ≡ 3 * cells r
   pub stored : length poles ≡ (6 * r.pole_slots + 3) * cells r
 
--- ---- the table of coefficients: three numbers for each slot, four slots for each material
-abbrev pub coeffs : (a1 a2 a3 : Float) → AdeCoeffs
-coeffs a b c = record { a1 = a; a2 = b; a3 = c }
+-- ---- the table of coefficients, and what reading past its end gives
+abbrev pub none : AdeCoeffs
+none = record { a1 = nan; a2 = nan; a3 = nan }
 
-abbrev pub coeff_at : List Float → ℕ → AdeCoeffs
-coeff_at co b = coeffs (get_or co (3 * b) nan) (get_or co (3 * b + 1) nan) (get_or co (3 * b + 2) nan)
+abbrev pub nothing : Stepped
+nothing = record { count = 0; coeffs = [] }
 
--- entry b is k, and the others are what they were
-pub record CoeffPut (k : AdeCoeffs) (b : ℕ) (old new : List Float) : Type 0 where
-  pub same : length new ≡ length old
-  pub here : coeff_at new b ≡ k
-  pub others : (a : ℕ) → (a ≡ b → ⊥) → coeff_at new a ≡ coeff_at old a
+abbrev pub coeff_at : Stepped → ℕ → AdeCoeffs
+coeff_at k slot = get_or k.coeffs slot none
 
--- the first z slots of material i, and of the materials below it what was there
-pub record Listed (eps0 dt : Float) (material : DispersiveMaterial) (i z : ℕ) (old new : List Float) : Type 0 where
-  pub same : length new ≡ length old
-  pub here : (slot : ℕ) → slot < z → coeff_at new (4 * i + slot) ≡ ade_coeffs eps0 dt (pole_in material slot)
-  pub below : (b : ℕ) → b < 4 * i → coeff_at new b ≡ coeff_at old b
+-- the first z slots of a material
+pub record Listed (eps0 dt : Float) (material : DispersiveMaterial) (z : ℕ) (coeffs : List AdeCoeffs) : Type 0 where
+  pub each : (slot : ℕ) → slot < z → get_or coeffs slot none ≡ ade_coeffs eps0 dt (pole_in material slot)
 
--- the counted slots of the first z materials
-pub record Table (eps0 : Float) (r : Record) (z : ℕ) (co : List Float) : Type 0 where
-  pub each : (i slot : ℕ) → i < z → slot < pole_count r i → coeff_at co (4 * i + slot) ≡ ade_coeffs eps0 r.spacings.dt (pole_at r i slot)
+-- its counted slots
+pub record Stepping (eps0 dt : Float) (material : DispersiveMaterial) (k : Stepped) : Type 0 where
+  pub counted : k.count ≡ material.pole_count
+  pub listed : Listed eps0 dt material material.pole_count k.coeffs
 
-pub record Counts (r : Record) (z : ℕ) (counts : List ℕ) : Type 0 where
-  pub each : (i : ℕ) → i < z → get_or counts i 0 ≡ pole_count r i
+-- the first z materials
+pub record Table (eps0 : Float) (r : Record) (z : ℕ) (table : List Stepped) : Type 0 where
+  pub each : (i : ℕ) → i < z → Stepping eps0 r.spacings.dt (material_at r i) (get_or table i nothing)
 
 -- ---- one cell
 -- a store with one cell's three numbers moved on: p at i, p before at j, dp at d
@@ -90,11 +88,11 @@ by_span k electric n c i j d m = moved k (field_at electric n m c) i j d
 abbrev pub by_three : AdeCoeffs → (electric : List Float) → (n i j d : ℕ) → ℕ → (ℕ → Float) → ℕ → Float
 by_three k electric n i j d m = tripled k (field_at electric n m) i j d
 
-abbrev pub by_run : (co electric : List Float) → (n slots base count : ℕ) → ℕ → (ℕ → Float) → ℕ → Float
-by_run co electric n slots base count m = through (λ s. coeff_at co (base + s)) slots (field_at electric n m) count
+abbrev pub by_run : Stepped → (electric : List Float) → (n slots count : ℕ) → ℕ → (ℕ → Float) → ℕ → Float
+by_run k electric n slots count m = through (coeff_at k) slots (field_at electric n m) count
 
-abbrev pub by_cell : (co : List Float) (counts ids : List ℕ) (electric : List Float) → (n slots : ℕ) → ℕ → (ℕ → Float) → ℕ → Float
-by_cell co counts ids electric n slots m = by_run co electric n slots (4 * get_or ids m 0) (get_or counts (get_or ids m 0) 0) m
+abbrev pub by_cell : (table : List Stepped) (ids : List ℕ) (electric : List Float) → (n slots : ℕ) → ℕ → (ℕ → Float) → ℕ → Float
+by_cell table ids electric n slots m = let k = get_or table (get_or ids m 0) nothing in by_run k electric n slots k.count m
 
 -- z ends the run of one id from a on
 pub record RunEnd (ids : List ℕ) (n a z : ℕ) : Type 0 where

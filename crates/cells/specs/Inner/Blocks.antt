@@ -1,5 +1,5 @@
 -- What the loops over cells cite: a part of a store that is changed, block by block. Definitions only.
-use Rattle.std.specs.Prelude.{◌≡◌, ℕ, ◌*◌, ◌≤◌, ◌<◌, cond, List, [], ◌∷◌}
+use Rattle.std.specs.Prelude.{ℕ, ◌*◌, cond, List, [], ◌∷◌}
 use Rattle.codec.specs.Lists.{put, part}
 use Rattle.cells.specs.Cells.{joined}
 use Rattle.cells.specs.declared.IndexBox.{IndexBox}
@@ -22,9 +22,3 @@ set_plane nx ny b v = in_blocks ny nx b.j0 b.j1 (λ _. set_row nx b.i0 b.i1 v)
 
 unfoldable pub set_box : {A : Type 0} → (nx ny nz : ℕ) → IndexBox → A → List A → List A
 set_box nx ny nz b v = in_blocks nz (ny * nx) b.k0 b.k1 (λ _. set_plane nx ny b v)
-
--- r is where a loop from a over the numbers below both e and n ends
-pub record Ends (a e n r : ℕ) : Type 0 where
-  pub from : a ≤ r
-  pub top : a < r → r ≤ n
-  pub same : (b : ℕ) → b < n → within a r b ≡ within a e b

@@ -7,7 +7,7 @@ use Rattle.corrections.specs.Inner.Faces.{add_plane, add_box, addends}
 use lib.ListN.{length}
 use native.Mathlib.Omega.{arith}
 use Prim.Native.Nat.{◌+◌, ◌*◌, ◌≤◌}
-use mathlib.Core.Path.{◌≡◌, refl, ap, ◌∙◌}
+use mathlib.Core.Path.{◌≡◌, ap, ◌∙◌}
 use Rattle.corrections.proofs.add_box.Goals as goal
 
 pub loop-k-init : goal.loop-k-init
@@ -15,7 +15,7 @@ loop-k-init c =
     let room : c.args.f.component * c.args.w.n + c.args.w.nz * (c.args.w.ny * c.args.w.nx) ≤ length c.args.s.now = omega (arith, c.requires.0.count, c.requires.0.room) in
     let a = c.args in
     let b = a.f.b in
-    (omega arith, omega arith, refl, sweep_none (a.f.component * a.w.n) a.w.nz (a.w.ny * a.w.nx) b.k0 _ (plane_keeps a.w.nx a.w.ny b (addends a.w a.f a.media.now a.line.now)) a.s.now room)
+    sweep_none (a.f.component * a.w.n) a.w.nz (a.w.ny * a.w.nx) b.k0 _ (plane_keeps a.w.nx a.w.ny b (addends a.w a.f a.media.now a.line.now)) a.s.now room
 
 pub overflow_add-at : goal.overflow_add-at
 overflow_add-at c =
@@ -28,21 +28,17 @@ add_plane-requires c =
     let plane_in : let a = c.args in c.loop-k.k * (a.w.ny * a.w.nx) + a.w.ny * a.w.nx ≤ a.w.nz * (a.w.ny * a.w.nx) = let a = c.args in block_end c.loop-k.k a.w.nz (a.w.ny * a.w.nx) (omega arith) in
     let room : c.args.f.component * c.args.w.n + c.args.w.nz * (c.args.w.ny * c.args.w.nx) ≤ length c.args.s.now = omega (arith, c.requires.0.count, c.requires.0.room) in
     let l = c.loop-k in
-    (fits_kept c.args.s.now l.s l.invariant.2 c.requires.0, omega (arith, plane_in, c.requires.0.count), omega (arith, plane_in, room))
+    (fits_kept c.args.s.now l.s (omega arith) c.requires.0, omega (arith, plane_in, c.requires.0.count), omega (arith, plane_in, room))
 
 pub loop-k-preserved : goal.loop-k-preserved
 loop-k-preserved c =
     let room : c.args.f.component * c.args.w.n + c.args.w.nz * (c.args.w.ny * c.args.w.nx) ≤ length c.args.s.now = omega (arith, c.requires.0.count, c.requires.0.room) in
     let a = c.args in
     let b = a.f.b in
-    let l = c.loop-k in (
-      omega arith,
-      omega arith,
-      c.add_plane.auto.s ∙ l.invariant.2,
-      c.add_plane.ensures
-          ∙ ap (λ s. on (a.f.component * a.w.n + l.k * (a.w.ny * a.w.nx)) (a.w.ny * a.w.nx) (add_plane a.w.nx a.w.ny b (λ i j. addends a.w a.f a.media.now a.line.now i j l.k)) s) l.invariant.3
-          ∙ sweep_more (a.f.component * a.w.n) a.w.nz (a.w.ny * a.w.nx) b.k0 _ (plane_keeps a.w.nx a.w.ny b (addends a.w a.f a.media.now a.line.now)) a.s.now room l.k l.invariant.0 (omega arith),
-    )
+    let l = c.loop-k in
+    c.add_plane.ensures
+    ∙ ap (λ s. on (a.f.component * a.w.n + l.k * (a.w.ny * a.w.nx)) (a.w.ny * a.w.nx) (add_plane a.w.nx a.w.ny b (λ i j. addends a.w a.f a.media.now a.line.now i j l.k)) s) l.invariant
+    ∙ sweep_more (a.f.component * a.w.n) a.w.nz (a.w.ny * a.w.nx) b.k0 _ (plane_keeps a.w.nx a.w.ny b (addends a.w a.f a.media.now a.line.now)) a.s.now room l.k (omega arith) (omega arith)
 
 pub returns : goal.returns
 unfolding add_box
@@ -50,5 +46,5 @@ returns c = let a = c.args in
     let b = a.f.b in
     let l = c.loop-k in
     let e : l.k ≡ b.k1 = omega arith in
-    l.invariant.3
+    l.invariant
     ∙ ap (λ k. on (a.f.component * a.w.n) (a.w.nz * (a.w.ny * a.w.nx)) (in_blocks a.w.nz (a.w.ny * a.w.nx) b.k0 k (λ k. add_plane a.w.nx a.w.ny b (λ i j. addends a.w a.f a.media.now a.line.now i j k))) a.s.now) e

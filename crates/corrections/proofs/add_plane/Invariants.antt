@@ -1,12 +1,8 @@
 use Rattle.cells.specs.Inner.Blocks.{on, in_blocks}
 use Rattle.corrections.specs.Inner.Faces.{add_row, addend}
-use lib.ListN.{length}
-use Prim.Native.Nat.{◌+◌, ◌-◌, ◌*◌, ◌≤◌}
+use Prim.Native.Nat.{◌+◌, ◌*◌}
 use mathlib.Core.Path.{◌≡◌}
 use Rattle.corrections.proofs.add_plane.Given as goal
 
 abbrev pub invariant-loop-j : goal.invariant-loop-j
-invariant-loop-j l = (l.f.b.j0 ≤ l.j) × (l.j ≤ l.f.b.j1) × (length l.s ≡ length l.initial.s) × (l.s ≡ on l.q (l.w.ny * l.w.nx) (in_blocks l.w.ny l.w.nx l.f.b.j0 l.j (λ j. add_row l.w.nx l.f.b.i0 l.f.b.i1 (λ i. addend l.w l.f l.media l.x (l.p + j * l.w.nx + i)))) l.initial.s)
-
-abbrev pub decreases-loop-j : goal.decreases-loop-j
-decreases-loop-j l = l.end - l.j
+invariant-loop-j l = (l.s ≡ on l.q (l.w.ny * l.w.nx) (in_blocks l.w.ny l.w.nx l.f.b.j0 l.j (λ j. add_row l.w.nx l.f.b.i0 l.f.b.i1 (λ i. addend l.w l.f l.media l.x (l.p + j * l.w.nx + i)))) l.initial.s)

@@ -1,12 +1,6 @@
-use mathlib.Core.Path.{◌≡◌}
-use Prim.Native.Nat.{◌≤◌, ◌-◌}
-use lib.Dec.{ltb}
-use lib.ListN.{length, take}
+use Rattle.std.proofs.Common.{◌≡◌, nat_lt, take}
 use Rattle.codec.specs.Lists.{every}
 use Rattle.due.proofs.all_below.Given as goal
 
-abbrev pub invariant-loop-i : goal.invariant-loop-i
-invariant-loop-i l = (l.i ≤ length (l.ids)) × (l.below ≡ every (λ id. ltb id l.b) (take l.i (l.ids)))
-
-abbrev pub decreases-loop-i : goal.decreases-loop-i
-decreases-loop-i l = length (l.ids) - l.i
+abbrev pub invariant-loop-id : goal.invariant-loop-id
+invariant-loop-id l = l.below ≡ every (λ id. nat_lt id l.b) (take l.id-index l.ids)

@@ -1,5 +1,5 @@
 -- The grid as rows along one axis (the structs of turns.rt): where a row stands, how its sides are handed over, what its stores need. Definitions only.
-use Rattle.std.specs.Prelude.{ℕ, ◌+◌, ◌*◌, ◌≤◌, ◌<◌, ◌≡◌, ◌⊎◌, true, false, cond, List, eqb, length, get_or, Float}
+use Rattle.std.specs.Prelude.{ℕ, ◌+◌, ◌*◌, ◌≤◌, ◌<◌, ◌≡◌, ◌⊎◌, Bool, true, false, not, cond, List, eqb, length, get_or, Float}
 use Rattle.std.specs.Float.{nan}
 use Rattle.std.specs.Float.Ieee.{eq}
 use Rattle.root.specs.Rounded.{zero_f}
@@ -12,6 +12,11 @@ use Rattle.fdtd.specs.declared.turns.Spot.{Spot}
 use Rattle.fdtd.specs.declared.turns.Run.{Run}
 use Rattle.fdtd.specs.Axes.{axis_x, axis_y, axis_z}
 use Rattle.fdtd.specs.Yee.{coef_at}
+
+-- axis a, of n cells of size d, its tables from tab on, in a grid of count cells
+abbrev pub axis_by : Record → (a n : ℕ) → (d : Float) → (count tab : ℕ) → Axis
+axis_by r a n d count tab =
+    record { n = n; d = d; wraps = get_or r.periodic a false; on = get_or r.active a false; at = a * count; mem = 2 * a * count; tab = tab }
 
 -- in rows along x, y or z
 abbrev pub turn_x : Record → (from : ℕ) → Turn
@@ -90,11 +95,11 @@ side_along w run own mem =
       mem = mem;
     }
 
--- from a up to r, which is at most z, the numbers from t on are 0
-pub record Zeros (tab : List Float) (t a z r : ℕ) : Type 0 where
+-- from a up to r, which is at most z, none of the numbers from t on is 0; or, where zero is false, all are
+pub record FirstPlace (tab : List Float) (t a z : ℕ) (zero : Bool) (r : ℕ) : Type 0 where
   pub from : a ≤ r
   pub upto : r ≤ z
-  pub all : (i : ℕ) → a ≤ i → i < r → eq (get_or tab (t + i) nan) zero_f ≡ true
+  pub all : (i : ℕ) → a ≤ i → i < r → eq (get_or tab (t + i) nan) zero_f ≡ not zero
 
 -- the cells of w from a up to z, and a run among them where the layer is quiet
 pub record Lull (w : Axis) (tab : List Float) (a z : ℕ) (run : Run) : Type 0 where
@@ -105,11 +110,25 @@ pub record Lull (w : Axis) (tab : List Float) (a z : ℕ) (run : Run) : Type 0 w
   pub upto : run.hi ≤ z
   pub quiet : (i : ℕ) → run.lo ≤ i → i < run.hi → eq (get_or tab (w.tab + w.n + w.n + i) nan) zero_f ≡ true
 
+-- two components and their memories lie apart
+abbrev pub Apart : (count : ℕ) → Axis → Axis → Type 0
+Apart count A B = ((A.at + count ≤ B.at) × (A.mem + count + count ≤ B.mem)) ⊎ ((B.at + count ≤ A.at) × (B.mem + count + count ≤ A.mem))
+
+-- the sizes, and where the components lie
+pub record Laid (g : Turn) : Type 0 where
+  pub whole : g.count ≡ g.t.n * g.s.n * g.r.n
+  pub few : g.count ≤ 1048576
+  pub sn : g.s.n ≤ 512
+  pub tn : g.t.n ≤ 512
+  pub rs : Apart g.count g.r g.s
+  pub rt : Apart g.count g.r g.t
+  pub st : Apart g.count g.s g.t
+
 -- a grid and its stores: source is the field that the derivatives are taken of, moved the one that the half step moves
 pub record Fit (g : Turn) (source tab mem moved : List Float) : Type 0 where
+  pub laid : Laid g
   pub some : 1 ≤ g.r.n
   pub small : g.r.n ≤ 512
-  pub few : g.count ≤ 1048576
   pub er : g.r.at + g.count ≤ length source
   pub es : g.s.at + g.count ≤ length source
   pub et : g.t.at + g.count ≤ length source
@@ -122,19 +141,6 @@ pub record Fit (g : Turn) (source tab mem moved : List Float) : Type 0 where
   pub tr : g.r.tab + g.r.n + g.r.n + g.r.n ≤ length tab
   pub ts : g.s.tab + g.s.n + g.s.n + g.s.n ≤ length tab
   pub tt : g.t.tab + g.t.n + g.t.n + g.t.n ≤ length tab
-
--- two components and their memories lie apart
-abbrev pub Apart : (count : ℕ) → Axis → Axis → Type 0
-Apart count A B = ((A.at + count ≤ B.at) × (A.mem + count + count ≤ B.mem)) ⊎ ((B.at + count ≤ A.at) × (B.mem + count + count ≤ A.mem))
-
--- the sizes, and where the components lie
-pub record Laid (g : Turn) : Type 0 where
-  pub whole : g.count ≡ g.t.n * g.s.n * g.r.n
-  pub sn : g.s.n ≤ 512
-  pub tn : g.t.n ≤ 512
-  pub rs : Apart g.count g.r g.s
-  pub rt : Apart g.count g.r g.t
-  pub st : Apart g.count g.s g.t
 
 -- the component at lo of a store, rows of n, s rows a plane, count numbers: its first r rows hold f, and its other rows are as they were. Of the rest of
 -- the store it says nothing, so that a store of three components has three of these, and six memories have six

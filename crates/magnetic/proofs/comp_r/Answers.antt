@@ -1,43 +1,12 @@
-use mathlib.Core.Path.{refl, ◌∙◌, sym, ap}
+use mathlib.Core.Path.{ap}
 use Prim.Native.Nat.{◌+◌, zero-le}
 use native.Mathlib.Nat.{le_refl}
 use native.Mathlib.Omega.{arith}
 use Rattle.fdtd.specs.declared.rows.Side.{Side}
-use Rattle.fdtd.specs.Axes.{has_next}
 use Rattle.magnetic.proofs.Slopes.{across_slope}
 use Rattle.fdtd.proofs.Stands.{stands_across, calm_across, room_across, lower, mem_apart, thrice, row_fits, row_le}
-use Rattle.magnetic.proofs.Component.{idle, moved, and_true, and_left, and_right}
+use Rattle.magnetic.proofs.Component.{idle, moved}
 use Rattle.magnetic.proofs.comp_r.Goals as goal
-
-pub overflow_add-g : goal.overflow_add-g
-overflow_add-g c = omega (arith, c)
-
-pub overflow_add-g-then-has_next-2 : goal.overflow_add-g-then-has_next-2
-overflow_add-g-then-has_next-2 c = omega (arith, c)
-
-pub overflow_add-g-then-has_next-2-2 : goal.overflow_add-g-then-has_next-2-2
-overflow_add-g-then-has_next-2-2 c = omega (arith, c)
-
-pub across-b-requires : goal.across-b-requires
-across-b-requires c = (omega (arith, c), omega (arith, c))
-
-pub overflow_add-g-then-has_next-2-3 : goal.overflow_add-g-then-has_next-2-3
-overflow_add-g-then-has_next-2-3 c = omega (arith, c)
-
-pub overflow_add-g-then-has_next-2-4 : goal.overflow_add-g-then-has_next-2-4
-overflow_add-g-then-has_next-2-4 c = omega (arith, c)
-
-pub overflow_add-g-then-has_next-2-5 : goal.overflow_add-g-then-has_next-2-5
-overflow_add-g-then-has_next-2-5 c = omega (arith, c)
-
-pub overflow_add-g-then-has_next-2-6 : goal.overflow_add-g-then-has_next-2-6
-overflow_add-g-then-has_next-2-6 c = omega (arith, c)
-
-pub across-c-requires : goal.across-c-requires
-across-c-requires c = (omega (arith, c), omega (arith, c))
-
-pub overflow_add-g-then-has_next-2-7 : goal.overflow_add-g-then-has_next-2-7
-overflow_add-g-then-has_next-2-7 c = omega (arith, c)
 
 pub row-requires : goal.row-requires
 row-requires c =
@@ -63,20 +32,16 @@ row-requires c =
       n_bound = mem_apart g.r.mem p.q g.r.n g.count _ _ (ap (λ (s : Side). s.mem) across.ensures) (ap (λ (s : Side). s.mem) across2.ensures) spot.0;
     }
 
-pub returns-then-has_next-2 : goal.returns-then-has_next-2
-returns-then-has_next-2 c =
+pub returns-then-has_next : goal.returns-then-has_next
+returns-then-has_next c =
     let pre = c.requires in
-    let has_next_lem = c.has_next in
-    let if1 = c.if-has_next in
-    let has-next2 = c.has_next-then-has_next in
-    let if2 = c.if-has_next-2 in
     let across = c.across-b in
     let across2 = c.across-c in
     let row = c.row in
     let a = c.args in
     let g = a.g in
     let p = a.p in
-    let m = moved g.r g.s g.t g.count a.e.now a.tab.now a.mem.now a.scr.now a.h.now p.q g.r.n
+    let m = moved g.r g.s g.t g.count a.e.now a.tab.now a.mem.now a.f.now a.h.now p.q g.r.n
     (λ i. p.s) (λ i. p.t) (λ i. p.bs + i) (λ i. p.bt + i) _ _ g.r.n _ _
     (le_refl g.r.n) (row_le p.q g.r.n _ pre.n_bound.0)
     (λ i.
@@ -85,22 +50,14 @@ returns-then-has_next-2 c =
     (λ i.
     stands_across g.t g.s _ _ _ p.q i _ _ _ _ _ (g.r.mem + g.count) across2.ensures
     (across_slope g.t g.s _ a.tab.now _ p.q i p.t 0 _ p.bt _ across2.ensures))
-    (λ i l. and_true (has_next g.s p.s) (has_next g.t p.t) (sym has_next_lem.ensures ∙ if1.true) (sym has-next2.ensures ∙ if2.true))
+    (λ i l. rw (← c.has_next.ensures, ← c.has_next-2.ensures) c.if-has_next.true)
     (λ i u l. absurd (omega arith)) row.ensures.span row.ensures.two in
-    record { span = m.0; two = m.1; top = row.ensures.top }
-
-pub returns-else-has_next-2 : goal.returns-else-has_next-2
-returns-else-has_next-2 c = let a = c.args in
-    let g = a.g in
-    let p = a.p in
-    let m = idle g.r g.s g.t g.count a.e.now a.tab.now a.mem.now a.scr.now a.h.now p.q g.r.n
-    (λ i. p.s) (λ i. p.t) (λ i. p.bs + i) (λ i. p.bt + i) (λ i. and_right (has_next g.s p.s) (has_next g.t p.t) (sym c.has_next-then-has_next.ensures ∙ c.if-has_next-2.false)) in
-    record { span = m.0; two = m.1; top = record { len = refl; over = λ q l. refl } }
+    record { span = m.0; two = m.1 }
 
 pub returns-else-has_next : goal.returns-else-has_next
 returns-else-has_next c = let a = c.args in
     let g = a.g in
     let p = a.p in
-    let m = idle g.r g.s g.t g.count a.e.now a.tab.now a.mem.now a.scr.now a.h.now p.q g.r.n
-    (λ i. p.s) (λ i. p.t) (λ i. p.bs + i) (λ i. p.bt + i) (λ i. and_left (has_next g.s p.s) (has_next g.t p.t) (sym c.has_next.ensures ∙ c.if-has_next.false)) in
-    record { span = m.0; two = m.1; top = record { len = refl; over = λ q l. refl } }
+    let m = idle g.r g.s g.t g.count a.e.now a.tab.now a.mem.now a.f.now a.h.now p.q g.r.n
+    (λ i. p.s) (λ i. p.t) (λ i. p.bs + i) (λ i. p.bt + i) (λ i. rw (← c.has_next.ensures, ← c.has_next-2.ensures) c.if-has_next.false) in
+    record { span = m.0; two = m.1 }

@@ -1,37 +1,12 @@
 use native.Mathlib.Nat.{le_refl}
-use mathlib.Core.Path.{refl, ◌∙◌, sym, ap}
+use mathlib.Core.Path.{◌∙◌, sym, ap}
 use Prim.Native.Nat.{◌+◌, zero-le}
-use native.Mathlib.Omega.{arith}
 use Rattle.fdtd.specs.declared.rows.Side.{Side}
 use Rattle.fdtd.specs.Axes.{next_of, has_next}
 use Rattle.magnetic.proofs.Slopes.{reach_in, reach_out, reach_le, across_slope, along_slope}
 use Rattle.fdtd.proofs.Stands.{stands_across, stands_along, calm_across, calm_along, room_across, room_along, lower, mem_apart, thrice, row_fits, row_le}
 use Rattle.magnetic.proofs.Component.{idle, moved, and_true, and_left, and_right}
 use Rattle.magnetic.proofs.comp_s.Goals as goal
-
-pub overflow_add-g : goal.overflow_add-g
-overflow_add-g c = omega (arith, c)
-
-pub overflow_add-g-then-has_next : goal.overflow_add-g-then-has_next
-overflow_add-g-then-has_next c = omega (arith, c)
-
-pub overflow_add-g-then-has_next-2 : goal.overflow_add-g-then-has_next-2
-overflow_add-g-then-has_next-2 c = omega (arith, c)
-
-pub across-b-requires : goal.across-b-requires
-across-b-requires c = (omega (arith, c), omega (arith, c))
-
-pub overflow_add-g-then-has_next-3 : goal.overflow_add-g-then-has_next-3
-overflow_add-g-then-has_next-3 c = omega (arith, c)
-
-pub overflow_add-g-then-has_next-4 : goal.overflow_add-g-then-has_next-4
-overflow_add-g-then-has_next-4 c = omega (arith, c)
-
-pub overflow_add-g-then-has_next-5 : goal.overflow_add-g-then-has_next-5
-overflow_add-g-then-has_next-5 c = omega (arith, c)
-
-pub overflow_add-g-then-has_next-6 : goal.overflow_add-g-then-has_next-6
-overflow_add-g-then-has_next-6 c = omega (arith, c)
 
 pub row-requires : goal.row-requires
 row-requires c =
@@ -67,7 +42,7 @@ returns-then-has_next c =
     let a = c.args in
     let g = a.g in
     let p = a.p in
-    let m = moved g.s g.t g.r g.count a.e.now a.tab.now a.mem.now a.scr.now a.h.now p.q g.r.n
+    let m = moved g.s g.t g.r g.count a.e.now a.tab.now a.mem.now a.f.now a.h.now p.q g.r.n
     (λ i. p.t) (λ i. i) (λ i. p.bt + i) (λ i. p.q + next_of i g.r.n) _ _ a.run.end _ _
     (reach_le g.r.wraps g.r.n a.run.end pre.next_run.ends) (row_le p.q g.r.n _ pre.n_bound.0)
     (λ i.
@@ -78,12 +53,12 @@ returns-then-has_next c =
     (along_slope g.r g.t _ p.q i a.run _ along.ensures))
     (λ i l. and_true (has_next g.t p.t) (has_next g.r i) (sym has_next_lem.ensures ∙ if1.true) (reach_in g.r.wraps i g.r.n a.run.end pre.next_run.ends l))
     (λ i u l. and_right (has_next g.t p.t) (has_next g.r i) (reach_out g.r.wraps i g.r.n a.run.end pre.next_run.ends u l)) row.ensures.span row.ensures.two in
-    record { span = m.0; two = m.1; top = row.ensures.top }
+    record { span = m.0; two = m.1 }
 
 pub returns-else-has_next : goal.returns-else-has_next
 returns-else-has_next c = let a = c.args in
     let g = a.g in
     let p = a.p in
-    let m = idle g.s g.t g.r g.count a.e.now a.tab.now a.mem.now a.scr.now a.h.now p.q g.r.n
+    let m = idle g.s g.t g.r g.count a.e.now a.tab.now a.mem.now a.f.now a.h.now p.q g.r.n
     (λ i. p.t) (λ i. i) (λ i. p.bt + i) (λ i. p.q + next_of i g.r.n) (λ i. and_left (has_next g.t p.t) (has_next g.r i) (sym c.has_next.ensures ∙ c.if-has_next.false)) in
-    record { span = m.0; two = m.1; top = record { len = refl; over = λ q l. refl } }
+    record { span = m.0; two = m.1 }

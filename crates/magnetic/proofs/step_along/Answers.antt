@@ -1,4 +1,3 @@
-use mathlib.Core.Path.{refl}
 use Prim.Native.Nat.{zero-le}
 use Rattle.magnetic.proofs.Slopes.{ready_of}
 use Rattle.magnetic.proofs.step_along.Goals as goal
@@ -12,4 +11,4 @@ find_lull-run-requires c = (c.requires.fit.tr, zero-le, c.reach-end.ensures.1)
 pub sweep-requires : goal.sweep-requires
 sweep-requires c =
     let pre = c.requires in
-    record { fit = pre.fit; laid = pre.laid; next_run = ready_of c.find_lull-run.ensures c.reach-end.ensures.0; scr_len = (refl, pre.count_in_bounds) }
+    record { fit = pre.fit; next_run = ready_of c.find_lull-run.ensures c.reach-end.ensures.0; f_len = (pre.fit.small, pre.count_in_bounds) }

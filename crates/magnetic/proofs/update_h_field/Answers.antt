@@ -1,4 +1,4 @@
-use Rattle.fdtd.proofs.Fits.{count_for, fit_for, laid_for}
+use Rattle.fdtd.proofs.Fits.{count_for, fit_for}
 use native.Mathlib.Omega.{arith}
 use Rattle.magnetic.proofs.Steps.{magnetic_is, psi_is}
 use Rattle.magnetic.proofs.update_h_field.Goals as goal
@@ -12,7 +12,7 @@ step_along-requires c =
     let a = c.args in
     let pre = c.requires in
     let n = count_for a.r 3 _ turn-of.ensures in
-    record { fit = fit_for a.r 3 (omega arith) pre.sound _ _ _ _ pre.e_len.0 pre.psi_h_len.1 pre.psi_h_len.0 pre.e_len.2 turn-of.ensures; laid = laid_for a.r 3 (omega arith) pre.sound turn-of.ensures; count_in_bounds = omega (arith, n, pre.e_len.1) }
+    record { fit = fit_for a.r 3 (omega arith) pre.sound _ _ _ _ pre.e_len.0 pre.psi_h_len.1 pre.psi_h_len.0 pre.e_len.2 turn-of.ensures; count_in_bounds = omega (arith, n, pre.e_len.1) }
 
 pub shape_of-h : goal.shape_of-h
 shape_of-h c = c.step_along.auto.h

@@ -3,6 +3,7 @@ use Rattle.std.specs.Prelude.{ℕ, ◌+◌, ◌-◌, ◌≡◌, true, false, con
 use Rattle.std.specs.Float.{nan}
 use Rattle.root.specs.Rounded.{◌⊖◌, ◌⊗◌}
 use Rattle.fdtd.specs.declared.Axis.{Axis}
+use Rattle.fdtd.specs.declared.rows.Differences.{Differences}
 use Rattle.fdtd.specs.declared.rows.Side.{Side}
 use Rattle.fdtd.specs.declared.turns.Run.{Run}
 use Rattle.fdtd.specs.Axes.{next_of}
@@ -11,6 +12,10 @@ use Rattle.fdtd.specs.Inner.Cell.{curl_on, first_on, second_on}
 use Rattle.fdtd.specs.Inner.Rows.{side_layered}
 use Rattle.fdtd.specs.Inner.Turns.{Lull}
 
+-- from a row's cells to their neighbours on a side
+abbrev pub ahead_of : Side → Differences
+ahead_of s = record { lo = s.own; hi = cond s.along (s.own + 1) s.other; d = s.d }
+
 -- for the cell i of a row of n: where its neighbour on a side stands, and its derivative there
 unfoldable pub next_at : Side → (n i : ℕ) → ℕ
 next_at s n i = cond s.along (s.own + next_of i n) (s.other + i)
@@ -18,11 +23,11 @@ next_at s n i = cond s.along (s.own + next_of i n) (s.other + i)
 unfoldable pub slope_of : Side → (e : List Float) → (n i : ℕ) → Float
 slope_of s e n i = slope s.d (get_or e (s.own + i) nan) (get_or e (next_at s n i) nan)
 
--- its new number: its old one stands at q + i of h, its factor at 1536 + i of scr
-unfoldable pub field_of : (b c : Side) (e tab mem scr h : List Float) (n q i : ℕ) → Float
-field_of b c e tab mem scr h n q i =
+-- its new number: its old one stands at q + i of h, its factor at i of fac
+unfoldable pub field_of : (b c : Side) (e tab mem fac h : List Float) (n q i : ℕ) → Float
+field_of b c e tab mem fac h n q i =
     get_or h (q + i) nan
-    ⊖ get_or scr (1536 + i) nan
+    ⊖ get_or fac i nan
     ⊗ side_layered true c tab mem i (slope_of c e n i) (side_layered false b tab mem i (slope_of b e n i) (slope_of b e n i ⊖ slope_of c e n i))
 
 -- by its places onB and onC, and the cells upB and up_c after it there

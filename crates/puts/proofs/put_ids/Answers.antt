@@ -8,4 +8,4 @@ use Rattle.puts.proofs.put_ids.Goals as goal
 pub returns : goal.returns
 returns c =
     let long = ids_long c.args.ids.now in
-    (search rules, wrote_one _ _ _ _ _ _ _ c.put_frame.ensures (sym long) c.put_u32s.ensures (omega (arith, long, c.requires.0)))
+    (search rules, wrote_one _ _ _ _ _ _ _ c.put_frame.ensures (sym long) c.put_all.ensures (omega (arith, long, c.requires.0)))

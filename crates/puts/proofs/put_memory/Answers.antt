@@ -8,8 +8,8 @@ use Rattle.codec.specs.Bytes.{floats_bytes}
 use Rattle.cpml.proofs.Memories.{memory_long}
 use Rattle.puts.proofs.put_memory.Goals as goal
 
-pub put_f64s-requires : goal.put_f64s-requires
-put_f64s-requires c =
+pub put_all-requires : goal.put_all-requires
+put_all-requires c =
     let a = c.args in
     let long = ap length c.psi-m.ensures ∙ memory_long a.which a.psi_e.now a.psi_h.now a.n c.requires.1 c.requires.2 in
     omega (arith, long, c.requires.0)
@@ -17,4 +17,4 @@ put_f64s-requires c =
 pub returns : goal.returns
 returns c =
     let a = c.args in
-    c.put_f64s.ensures ∙ ap (λ (m : List Float). put a.out.now a.at (floats_bytes m)) c.psi-m.ensures
+    c.put_all.ensures ∙ ap (λ (m : List Float). put a.out.now a.at (floats_bytes m)) c.psi-m.ensures

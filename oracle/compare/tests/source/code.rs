@@ -68,14 +68,15 @@ pub fn file(text: &str) -> File {
     let mut at = 0;
     while at < code.len() {
         let (start, word) = (at, code[at].text.as_str());
-        at = match word {
-            "fn" => closing(&code, find(&code, at, "{")) + 1,
-            "use" => find(&code, at, ";") + 1,
+        let body = if word == "fn" { body(&code, at) } else { None };
+        at = match (word, body) {
+            ("fn", Some(open)) => closing(&code, open) + 1,
+            ("use", _) => find(&code, at, ";") + 1,
             _ => at + 1,
         };
-        match word {
-            "fn" => functions.push(function(&code[start..at])),
-            "use" => uses.extend(used(&code[start + 1..at - 1])),
+        match (word, body) {
+            ("fn", Some(_)) => functions.push(function(&code[start..at])),
+            ("use", _) => uses.extend(used(&code[start + 1..at - 1])),
             _ => items.push(code[start].clone()),
         }
     }
@@ -132,6 +133,18 @@ fn path(words: &[Word]) -> Vec<String> {
         words[0].line
     );
     names.into_iter().map(|word| word.text.clone()).collect()
+}
+
+/// Where a function's body begins. One that a trait only declares has none, and stands among the items.
+fn body(words: &[Word], from: usize) -> Option<usize> {
+    let mut at = closing(words, find(words, from, "(")) + 1;
+    while !words[at].is("{") && !words[at].is(";") {
+        at = match words[at].text.as_str() {
+            "[" => closing(words, at) + 1,
+            _ => at + 1,
+        };
+    }
+    words[at].is("{").then_some(at)
 }
 
 fn function(words: &[Word]) -> Function {

@@ -207,14 +207,14 @@ fn standing()",
         changes: &[Change(
             STORES,
             "
-        put_u32(out, at + 4 * i, ns[i]);
+        put_u32(out, at, self);
 ",
             "
-        put_u32(out, at, ns[i]);
-        put_u32(out, at + 4 * i, get_u32(out, at));
+        put_u32(out, at - 4, self);
+        put_u32(out, at, get_u32(out, at - 4));
 ",
         )],
-        told: &[(STORES, "put_u32(out, at + 4 * i, get_u32(out, at));")],
+        told: &[(STORES, "put_u32(out, at, get_u32(out, at - 4));")],
     },
     Doctored {
         what: "a new file, by a `use` line",

@@ -1,4 +1,4 @@
-use Rattle.std.proofs.Common.{◌≡◌, ◌-◌, ◌≤◌, length, get_or}
+use Rattle.std.proofs.Common.{◌≡◌, ◌-◌, get_or}
 use lib.Ieee.{nan}
 use Rattle.codec.specs.Lists.{put}
 use Rattle.cells.specs.Cells.{row}
@@ -6,7 +6,4 @@ use Rattle.boundary.specs.Lossy.{strongest}
 use Rattle.boundary.proofs.lossy.lossy_row.Given as goal
 
 abbrev pub invariant-loop-i : goal.invariant-loop-i
-invariant-loop-i l = (l.i ≤ l.nx) × (length l.media ≡ length l.initial.media) × (l.media ≡ put l.initial.media l.at (row l.i (λ q. strongest (get_or l.walls q nan) (get_or l.walls (l.nx - 1 - q) nan) l.y0 l.y1 l.z0 l.z1)))
-
-abbrev pub decreases-loop-i : goal.decreases-loop-i
-decreases-loop-i l = l.nx - l.i
+invariant-loop-i l = l.media ≡ put l.initial.media l.at (row l.i (λ q. strongest (get_or l.walls q nan) (get_or l.walls (l.nx - 1 - q) nan) l.y0 l.y1 l.z0 l.z1))

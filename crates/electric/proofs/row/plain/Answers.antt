@@ -7,4 +7,4 @@ use Rattle.electric.proofs.row.plain.Goals as goal
 pub loop-i-preserved : goal.loop-i-preserved
 loop-i-preserved c =
     let l = c.loop-i in
-    (omega arith, omega arith, span_step _ _ _ _ _ _ _ l.invariant.2 (omega arith) (omega arith) (c.electric_value.ensures ∙ rw (c.at.ensures, c.at-in-loop-i.ensures, c.at-in-loop-i-2.ensures, l.invariant.2.over _ (le_refl _))))
+    span_step _ _ _ _ _ _ _ l.invariant (omega arith) (omega arith) (c.electric_value.ensures ∙ rw (c.at.ensures, c.at-in-loop-i.ensures, c.at-in-loop-i-2.ensures, l.invariant.over _ (le_refl _)))

@@ -1,5 +1,3 @@
-use mathlib.Core.Path.{refl, ◌∙◌}
-use Prim.Native.Nat.{zero-le}
 use native.Mathlib.Omega.{arith}
 use Rattle.fdtd.proofs.Lines.{fit_as}
 use Rattle.fdtd.proofs.Singles.{doing_start, doing_end}
@@ -14,7 +12,7 @@ find_shared-v-requires c =
     record { s_lt_n = (here.0, here.1, c.previous_of-bs.ensures.1, c.previous_of-bt.ensures.1, laid.sn, laid.tn); count_value = (laid.whole, pre.fit.few); n_in_bounds = (pre.fit.ts, pre.fit.tt) }
 
 pub loop-i-init : goal.loop-i-init
-loop-i-init c = (zero-le, refl, refl, (λ ee mm u. doing_start _ _ u))
+loop-i-init c = λ ee mm u. doing_start _ _ u
 
 pub cell-requires : goal.cell-requires
 cell-requires c =
@@ -22,16 +20,16 @@ cell-requires c =
     let pre = c.requires in
     let l = c.loop-i in
     let known = known_as a.g a.tab.now a.s a.t _ _ _ _ c.find_shared-v.ensures c.previous_of-bs.ensures.0 c.previous_of-bt.ensures.0 c.free_at-gos.ensures c.free_at-got.ensures in
-    record { fit = fit_as _ _ pre.fit l.invariant.2 l.invariant.1; laid = pre.laid; dp_room = pre.dp_room; known = known; i_lt_n = (c.loop-i-test.true, pre.s_lt_n.2, pre.s_lt_n.3) }
+    record { fit = fit_as _ _ pre.fit (omega arith) (omega arith); laid = pre.laid; dp_room = pre.dp_room; known = known; i_lt_n = (c.loop-i-test.true, pre.s_lt_n.2, pre.s_lt_n.3) }
 
 pub loop-i-preserved : goal.loop-i-preserved
 loop-i-preserved c =
     let l = c.loop-i in
     let cell = c.cell in
-    (omega (arith, c.loop-i-test.true), cell.auto.e ∙ l.invariant.1, cell.auto.mem ∙ l.invariant.2, (λ ee mm u. cell.ensures ee mm (l.invariant.3 ee mm u)))
+    λ ee mm u. cell.ensures ee mm (l.invariant ee mm u)
 
 pub returns : goal.returns
 returns c =
     let l = c.loop-i in
     let pre = c.requires in
-    (λ ee mm u. doing_end _ _ pre.s_lt_n.0 (omega (arith, l.invariant.0, c.loop-i-test.false)) (l.invariant.3 ee mm u))
+    λ ee mm u. doing_end _ _ pre.s_lt_n.0 (omega arith) (l.invariant ee mm u)

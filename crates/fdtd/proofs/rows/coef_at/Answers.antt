@@ -3,6 +3,4 @@ use Rattle.fdtd.proofs.rows.coef_at.Goals as goal
 
 pub returns : goal.returns
 unfolding k_of
-returns c =
-    let at = c.at in
-    rw (c.pick.ensures, at.ensures, c.pick-2.ensures, c.at-2.ensures, c.pick-3.ensures, c.at-3.ensures)
+returns c = rw (c.pick.ensures, c.pick-2.ensures, c.pick-3.ensures)

@@ -1,14 +1,12 @@
-use mathlib.Core.Path.{◌∙◌, ap}
-use Prim.Native.Nat.{◌+◌}
+use Rattle.std.proofs.Common.{◌+◌, refl, ap, arith}
 use native.Mathlib.Nat.{le_refl}
-use native.Mathlib.Omega.{arith}
 use Rattle.cpml.specs.declared.Advanced.{Advanced}
 use Rattle.fdtd.proofs.Cellwise.{live_law, mem_law}
-use Rattle.fdtd.proofs.Spans.{span_start, span_step, span_end}
+use Rattle.fdtd.proofs.Spans.{span_start, span_step, first_step, span_end}
 use Rattle.fdtd.proofs.rows.live.Goals as goal
 
 pub loop-i-init : goal.loop-i-init
-loop-i-init c = (omega arith, omega arith, span_start _ _ _ _, span_start _ _ _ _)
+loop-i-init c = (span_start _ _ _ _, span_start _ _ _ _)
 
 pub loop-i-preserved : goal.loop-i-preserved
 loop-i-preserved c =
@@ -16,14 +14,11 @@ loop-i-preserved c =
     let a = c.args in
     let k = c.coef_at-k.ensures in
     let moved = c.advance-moved.ensures in
-    let d = c.at-d.ensures ∙ l.invariant.2.under (a.o + l.i) (omega (arith, c)) in
-    let m = c.at.ensures ∙ l.invariant.3.over (a.s.mem + l.i) (le_refl (a.s.mem + l.i)) in
-    let u = c.at-in-loop-i.ensures ∙ l.invariant.2.over (1024 + l.i) (le_refl (1024 + l.i)) in (
-      omega arith,
-      omega (arith, c),
-      span_step _ _ _ _ _ _ _ l.invariant.2 (omega (arith, c)) (omega (arith, c)) (live_law a.second c.join.ensures u (ap (λ (x : Advanced). x.answer) moved) c.stretch.ensures k m d),
-      span_step _ _ _ _ _ _ _ l.invariant.3 (omega (arith, c)) (omega (arith, c)) (mem_law (ap (λ (x : Advanced). x.memory) moved) k m d),
+    let m = l.invariant.1.over (a.s.mem + l.i) (le_refl (a.s.mem + l.i)) in
+    let u = l.invariant.0.over l.i (omega arith) in (
+      first_step _ _ _ _ _ _ l.invariant.0 (omega arith) (omega arith) (live_law a.second c.join.ensures u (ap (λ (x : Advanced). x.answer) moved) c.stretch.ensures k m refl),
+      span_step _ _ _ _ _ _ _ l.invariant.1 (omega arith) (omega arith) (mem_law (ap (λ (x : Advanced). x.memory) moved) k m refl),
     )
 
 pub returns : goal.returns
-returns c = record { span = span_end _ _ _ _ c.loop-i.invariant.2 (omega arith); span_2 = span_end _ _ _ _ c.loop-i.invariant.3 (omega arith) }
+returns c = record { curl = span_end _ _ _ _ c.loop-i.invariant.0 (omega arith); memory = span_end _ _ _ _ c.loop-i.invariant.1 (omega arith) }

@@ -1,5 +1,4 @@
-use Prim.Native.Nat.{◌+◌, ◌-◌, ◌≤◌}
-use lib.ListN.{get_or}
+use Rattle.std.proofs.Common.{◌+◌, get_or}
 use lib.Ieee.{nan}
 use Rattle.fdtd.specs.Yee.{mem_next, layered}
 use Rattle.fdtd.specs.Inner.Rows.{k_of}
@@ -7,7 +6,4 @@ use Rattle.fdtd.specs.Inner.Span.{Span}
 use Rattle.fdtd.proofs.rows.live.Given as goal
 
 abbrev pub invariant-loop-i : goal.invariant-loop-i
-invariant-loop-i l = (l.a ≤ l.i) × (l.i ≤ l.z) × Span (λ k. layered l.second (k_of l.s l.tab k) (get_or l.initial.mem (l.p + k) nan) (get_or l.initial.scr (l.o + k) nan) (get_or l.initial.scr (1024 + k) nan)) l.initial.scr 1024 l.a l.i l.scr × Span (λ k. mem_next (k_of l.s l.tab k) (get_or l.initial.mem (l.p + k) nan) (get_or l.initial.scr (l.o + k) nan)) l.initial.mem l.p l.a l.i l.mem
-
-abbrev pub decreases-loop-i : goal.decreases-loop-i
-decreases-loop-i l = l.z - l.i
+invariant-loop-i l = Span (λ k. layered l.second (k_of l.s l.tab k) (get_or l.initial.mem (l.p + k) nan) (get_or l.d k nan) (get_or l.initial.curl k nan)) l.initial.curl 0 l.a l.i l.curl × Span (λ k. mem_next (k_of l.s l.tab k) (get_or l.initial.mem (l.p + k) nan) (get_or l.d k nan)) l.initial.mem l.p l.a l.i l.mem

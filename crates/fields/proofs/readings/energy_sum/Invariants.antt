@@ -1,11 +1,7 @@
 use Rattle.root.specs.Rounded.{summed}
-use Prim.Native.Nat.{◌-◌, ◌≤◌}
 use Rattle.fields.specs.Fields.{energy_at}
 use mathlib.Core.Path.{◌≡◌}
 use Rattle.fields.proofs.readings.energy_sum.Given as goal
 
 abbrev pub invariant-loop-m : goal.invariant-loop-m
-invariant-loop-m l = (l.m ≤ l.n) × (l.energy ≡ summed l.m (energy_at l.eps0 l.mu0 l.dv l.n l.e l.h l.media))
-
-abbrev pub decreases-loop-m : goal.decreases-loop-m
-decreases-loop-m l = l.n - l.m
+invariant-loop-m l = l.energy ≡ summed l.m (energy_at l.eps0 l.mu0 l.dv l.n l.e l.h l.media)

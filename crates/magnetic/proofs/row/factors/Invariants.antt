@@ -1,12 +1,8 @@
-use Prim.Native.Nat.{◌+◌, ◌-◌, ◌≤◌}
-use lib.ListN.{get_or}
+use Rattle.std.proofs.Common.{◌+◌, get_or}
 use lib.Ieee.{nan}
 use Rattle.fdtd.specs.Yee.{factor}
 use Rattle.fdtd.specs.Inner.Span.{Span}
 use Rattle.magnetic.proofs.row.factors.Given as goal
 
 abbrev pub invariant-loop-i : goal.invariant-loop-i
-invariant-loop-i l = (l.i ≤ l.n) × Span (λ k. factor l.dt l.mu0 (get_or l.media (l.m + k) nan)) l.initial.scr 1536 0 l.i l.scr
-
-abbrev pub decreases-loop-i : goal.decreases-loop-i
-decreases-loop-i l = l.n - l.i
+invariant-loop-i l = Span (λ k. factor l.dt l.mu0 (get_or l.media (l.m + k) nan)) l.initial.f 0 0 l.i l.f

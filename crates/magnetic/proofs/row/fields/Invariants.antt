@@ -1,12 +1,8 @@
-use Prim.Native.Nat.{◌+◌, ◌-◌, ◌≤◌}
-use lib.ListN.{get_or}
+use Rattle.std.proofs.Common.{◌+◌, get_or}
 use lib.Ieee.{nan}
 use Rattle.root.specs.Rounded.{◌⊖◌, ◌⊗◌}
 use Rattle.fdtd.specs.Inner.Span.{Span}
 use Rattle.magnetic.proofs.row.fields.Given as goal
 
 abbrev pub invariant-loop-i : goal.invariant-loop-i
-invariant-loop-i l = (l.i ≤ l.m) × Span (λ k. get_or l.initial.h (l.q + k) nan ⊖ get_or l.scr (1536 + k) nan ⊗ get_or l.scr (1024 + k) nan) l.initial.h l.q 0 l.i l.h
-
-abbrev pub decreases-loop-i : goal.decreases-loop-i
-decreases-loop-i l = l.m - l.i
+invariant-loop-i l = Span (λ k. get_or l.initial.h (l.q + k) nan ⊖ get_or l.f k nan ⊗ get_or l.curl k nan) l.initial.h l.q 0 l.i l.h

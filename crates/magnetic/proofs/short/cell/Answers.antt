@@ -1,12 +1,9 @@
-use mathlib.Core.Path.{◌∙◌}
+use mathlib.Core.Path.{◌∙◌, refl}
 use native.Mathlib.Omega.{arith}
 use Rattle.fdtd.proofs.Lines.{fit_as}
 use Rattle.fdtd.proofs.Beside.{near_r, near_s, near_t}
 use Rattle.magnetic.proofs.Shorts.{cell_shared}
 use Rattle.magnetic.proofs.short.cell.Goals as goal
-
-pub at-requires : goal.at-requires
-at-requires c = omega (arith, c.requires.known, c.requires.i_lt_n)
 
 pub component-requires : goal.component-requires
 component-requires c =
@@ -30,7 +27,7 @@ pub returns : goal.returns
 returns c =
     let a = c.args in
     let pre = c.requires in
-    cell_shared a.mu0 a.g a.e.now a.media.now a.tab.now a.s a.t a.i pre.laid _ _ _ _ _ _ _ _ a.v pre.known pre.i_lt_n.0
-    c.next_of.ensures.0 c.has_next-gor.ensures c.coef_of-kr.ensures c.at.ensures c.factor_of-f.ensures
-    c.both-go_r.ensures c.both-go_s.ensures c.both-go_t.ensures c.turned-gs.ensures c.turned-gt.ensures
+    cell_shared a.mu0 a.g a.e.now a.media.now a.tab.now a.s a.t a.i pre.fit.laid _ _ _ _ _ _ _ _ a.v pre.known pre.i_lt_n.0
+    c.next_of.ensures.0 c.has_next-gor.ensures c.coef_of-kr.ensures refl c.factor_of-f.ensures
+    refl refl refl c.turned-gs.ensures c.turned-gt.ensures
     c.component.ensures c.component-2.ensures c.component-3.ensures

@@ -1,39 +1,38 @@
-use mathlib.Core.Path.{◌≡◌, refl, ◌∙◌}
-use Prim.Native.Nat.{zero-le}
+use mathlib.Core.Path.{◌≡◌}
 use native.Mathlib.Omega.{arith}
 use Rattle.fdtd.proofs.Places.{row_more}
 use Rattle.fdtd.proofs.Lines.{done_as, done_start, fit_as}
 use Rattle.magnetic.proofs.short.sweep_cells.Goals as goal
 
 pub loop-t-init : goal.loop-t-init
-loop-t-init c = (zero-le, done_as (done_start _ _ _ _ _ _) (omega arith))
+loop-t-init c = done_as (done_start _ _ _ _ _ _) (omega arith)
 
 pub loop-s-init : goal.loop-s-init
-loop-s-init c = (zero-le, refl, refl, (λ hh mm w. done_as w (omega arith)))
+loop-s-init c = λ hh mm w. done_as w (omega arith)
 
 pub cells_of_row-requires : goal.cells_of_row-requires
 cells_of_row-requires c =
     let pre = c.requires in
     let l1 = c.loop-t in
     let l2 = c.loop-s in
-    record { fit = fit_as _ _ pre.fit (l2.invariant.2 ∙ l1.invariant.1.len_m) (l2.invariant.1 ∙ l1.invariant.1.len_x); laid = pre.laid; s_lt_n = (c.loop-s-test.true, c.loop-t-test.true, pre.count_in_bounds) }
+    record { fit = fit_as _ _ pre.fit (omega arith) (omega arith); s_lt_n = (c.loop-s-test.true, c.loop-t-test.true, pre.count_in_bounds) }
 
 pub loop-s-preserved : goal.loop-s-preserved
 loop-s-preserved c =
     let l2 = c.loop-s in
     let row = c.cells_of_row in
-    (omega (arith, c.loop-s-test.true), row.auto.h ∙ l2.invariant.1, row.auto.mem ∙ l2.invariant.2, (λ hh mm w. row.ensures hh mm (l2.invariant.3 hh mm w)))
+    λ hh mm w. row.ensures hh mm (l2.invariant hh mm w)
 
 pub loop-t-preserved : goal.loop-t-preserved
 loop-t-preserved c =
     let a = c.args in
     let l1 = c.loop-t in
     let l2 = c.loop-s in
-    (omega arith, done_as (l2.invariant.3 _ _ l1.invariant.1) (omega (arith, row_more l1.t a.g.s.n)))
+    done_as (l2.invariant _ _ l1.invariant) (omega (arith, row_more l1.t a.g.s.n))
 
 pub returns : goal.returns
 returns c =
     let a = c.args in
     let l = c.loop-t in
     let e : l.t ≡ a.g.t.n = omega arith in
-    done_as l.invariant.1 (rw e)
+    done_as l.invariant (rw e)

@@ -1,12 +1,7 @@
 use Rattle.tfsf.proofs.Ends.{hy_span}
 use Rattle.tfsf.specs.Inner.Spans.{Spanned}
-use mathlib.Core.Path.{◌≡◌}
-use lib.ListN.{length}
-use Prim.Native.Nat.{◌+◌, ◌-◌, ◌≤◌}
+use Prim.Native.Nat.{◌+◌}
 use Rattle.tfsf.proofs.line.move_h.Given as goal
 
 abbrev pub invariant-loop-a : goal.invariant-loop-a
-invariant-loop-a l = (l.a + 1 ≤ l.n) × (length l.line ≡ length l.initial.line) × Spanned (hy_span l.factor l.n l.initial.line) l.n (l.n + l.a) l.initial.line l.line
-
-abbrev pub decreases-loop-a : goal.decreases-loop-a
-decreases-loop-a l = l.n - l.a
+invariant-loop-a l = Spanned (hy_span l.factor l.n l.initial.line) l.n (l.n + l.a) l.initial.line l.line

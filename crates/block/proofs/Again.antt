@@ -13,7 +13,7 @@ use Rattle.codec.specs.Bytes.{fine, fit_all, bits}
 use Rattle.codec.proofs.Patterns.{bits_back}
 use Rattle.codec.proofs.Row.{fit_at}
 use Rattle.dispersion.specs.declared.DispersiveMaterial.{DispersiveMaterial}
-use Rattle.dispersion.specs.declared.PoleSlot.{PoleSlot}
+use Rattle.dispersion.specs.declared.Pole.{Pole}
 use Rattle.cells.specs.Cells.{joined, row}
 use Rattle.cells.specs.Reading.{length_row}
 use Rattle.cells.proofs.Written.{get_d_row}
@@ -32,7 +32,7 @@ float_back : (n : ℕ) → n < 256 ^ 8 → fine n ≡ true → bits (of_bits bin
 float_back n h e = bits_back n h e
 
 -- ---- one place of a pole
-slot_zero : (t a b c : ℕ) (s : PoleSlot) → slot_shaped false t a b c ≡ true → slot_nums false s ≡ t ∷ a ∷ b ∷ c ∷ []
+slot_zero : (t a b c : ℕ) (s : Pole) → slot_shaped false t a b c ≡ true → slot_nums false s ≡ t ∷ a ∷ b ∷ c ∷ []
 unfolding slot_shaped
 slot_zero t a b c s e =
     let three = and_left (eqb t 0 && eqb a 0 && eqb b 0) (eqb c 0) e in

@@ -33,7 +33,7 @@ pole_held_lem t x y z p q r = go (eqb t 1) (eqb t 2)
     go false true = and_i (held x) (held y) p q
     go false false = and_i (held x) (held y) p q
 
-slot_held : (t a b c : ℕ) → T (pole_held (slot_of t a b c).pole)
+slot_held : (t a b c : ℕ) → T (pole_held (slot_of t a b c))
 slot_held t a b c = pole_held_lem t _ _ _ (any a) (any b) (any c)
 
 pub read_held : (l : List ℕ) → MaterialHeld (ml_of l)
@@ -46,14 +46,14 @@ read_held l = record {
   each = λ i h. go i h;
 }
   where
-    go : (i : ℕ) → i < 4 → T (pole_held (get_or (ml_of l).poles i blank_slot).pole)
+    go : (i : ℕ) → i < 4 → T (pole_held (get_or (ml_of l).poles i blank_slot))
     go zero h = slot_held (get_or l 4 0) (get_or l 5 0) (get_or l 6 0) (get_or l 7 0)
     go (suc zero) h = slot_held (get_or l 8 0) (get_or l 9 0) (get_or l 10 0) (get_or l 11 0)
     go (suc (suc zero)) h = slot_held (get_or l 12 0) (get_or l 13 0) (get_or l 14 0) (get_or l 15 0)
     go (suc (suc (suc zero))) h = slot_held (get_or l 16 0) (get_or l 17 0) (get_or l 18 0) (get_or l 19 0)
     go (suc (suc (suc (suc i)))) h = absurd (let z : ⊥ = omega arith in z)
 
-blank_held : (i : ℕ) → i < 4 → T (pole_held (get_or vacuum_material.poles i blank_slot).pole)
+blank_held : (i : ℕ) → i < 4 → T (pole_held (get_or vacuum_material.poles i blank_slot))
 blank_held zero h = slot_held 0 0 0 0
 blank_held (suc zero) h = slot_held 0 0 0 0
 blank_held (suc (suc zero)) h = slot_held 0 0 0 0

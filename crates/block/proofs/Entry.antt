@@ -16,7 +16,6 @@ use Rattle.codec.proofs.Patterns.{bits_fine}
 use Rattle.codec.proofs.Row.{fit_nil, fit_cons}
 use Rattle.dispersion.specs.declared.Pole.{Pole}
 use Rattle.dispersion.specs.declared.Pole.TheVariants.{Lorentz, Drude, Debye}
-use Rattle.dispersion.specs.declared.PoleSlot.{PoleSlot}
 use Rattle.dispersion.specs.declared.DispersiveMaterial.{DispersiveMaterial}
 use Rattle.dispersion.specs.Material.{blank_slot}
 use Rattle.cells.specs.Cells.{joined, row}
@@ -69,7 +68,7 @@ four_fit : (t a b c : ℕ) → t < 256 → a < 256 ^ 8 → b < 256 ^ 8 → c < 2
 four_fit t a b c p q r s = fit_cons 1 t _ _ p (fit_cons 8 a _ _ q (fit_cons 8 b _ _ r (fit_cons 8 c _ _ s fit_nil)))
 
 -- ---- one place of a pole
-record Slot (counted : Bool) (s : PoleSlot) : Type 0 where
+record Slot (counted : Bool) (s : Pole) : Type 0 where
   tag : ℕ
   a : ℕ
   b : ℕ
@@ -84,11 +83,11 @@ zero_fine : fine 0 ≡ true
 unfolding fine nan_bits
 zero_fine = refl
 
-slot_blank : (s : PoleSlot) → Slot false s
+slot_blank : (s : Pole) → Slot false s
 unfolding slot_shaped
 slot_blank s = record { tag = 0; a = 0; b = 0; c = 0; are = refl; fit = four_fit 0 0 0 0 (omega arith) (omega arith) (omega arith) (omega arith); shaped = refl; good = rw zero_fine; back = refl }
 
-slot_pole : (p : Pole) → T (pole_held p) → Slot true (record { pole = p })
+slot_pole : (p : Pole) → T (pole_held p) → Slot true p
 unfolding slot_shaped
 slot_pole (Lorentz d w g) t =
     let both = and_l (held d && held w) (held g) t in
@@ -135,8 +134,8 @@ slot_pole (Debye d t') t =
       back = rw (of_bits-to_bits binary64 d fd, of_bits-to_bits binary64 t' ft);
     }
 
-slot_is : (counted : Bool) (s : PoleSlot) → T (pole_held s.pole) → Slot counted s
-slot_is true s t = slot_pole s.pole t
+slot_is : (counted : Bool) (s : Pole) → T (pole_held s) → Slot counted s
+slot_is true s t = slot_pole s t
 slot_is false s t = slot_blank s
 
 -- ---- twenty numbers
@@ -153,7 +152,7 @@ module _ (x y z n t a b c t' a' b' c' t'' a'' b'' c'' u v w o : ℕ) where
   unfolding ml_fine all_below
   twenty_fine p q i j k l = rw (p, q, i, j, k, l)
 
-  twenty_of : (d e f : Float) (p : List PoleSlot) → of_bits binary64 x ≡ d → of_bits binary64 y ≡ e → of_bits binary64 z ≡ f →
+  twenty_of : (d e f : Float) (p : List Pole) → of_bits binary64 x ≡ d → of_bits binary64 y ≡ e → of_bits binary64 z ≡ f →
       (slot_of t a b c ∷ slot_of t' a' b' c' ∷ slot_of t'' a'' b'' c'' ∷ slot_of u v w o ∷ []) ≡ p →
       ml_of twenty ≡ record { eps_inf = d; sigma = e; mu_r = f; pole_count = n; poles = p }
   unfolding ml_of joined
@@ -181,7 +180,7 @@ module _ (m : DispersiveMaterial) (h : MaterialHeld m) where
   abbrev front : List ℕ
   front = bits m.eps_inf ∷ bits m.sigma ∷ bits m.mu_r ∷ m.pole_count ∷ []
 
-  abbrev four_of : {t : Bool} {s : PoleSlot} → Slot t s → List ℕ
+  abbrev four_of : {t : Bool} {s : Pole} → Slot t s → List ℕ
   four_of p = p.tag ∷ p.a ∷ p.b ∷ p.c ∷ []
 
   numbers_are : ml_nums m ≡ front ++ four_of p0 ++ four_of p1 ++ four_of p2 ++ four_of p3
@@ -207,10 +206,10 @@ module _ (m : DispersiveMaterial) (h : MaterialHeld m) where
       ∙ twenty_fine _ _ _ _ _ _ _ _ _ _ _ _ _ _ _ _ _ _ _ _ (sym (ap ml_shaped numbers_are) ∙ material_shaped)
       (rw (bits_fine m.eps_inf h.eps, bits_fine m.sigma h.loss, bits_fine m.mu_r h.mu)) p0.good p1.good p2.good p3.good
 
-  abbrev kept : ℕ → PoleSlot
+  abbrev kept : ℕ → Pole
   kept i = cond (ltb i m.pole_count) (get_or m.poles i blank_slot) blank_slot
 
-  four_row : (s t u v : PoleSlot) → s ≡ kept 0 → t ≡ kept 1 → u ≡ kept 2 → v ≡ kept 3 → (s ∷ t ∷ u ∷ v ∷ []) ≡ row 4 kept
+  four_row : (s t u v : Pole) → s ≡ kept 0 → t ≡ kept 1 → u ≡ kept 2 → v ≡ kept 3 → (s ∷ t ∷ u ∷ v ∷ []) ≡ row 4 kept
   unfolding joined
   four_row s t u v p q i j = rw (p, q, i, j)
 

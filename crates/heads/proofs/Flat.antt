@@ -10,7 +10,6 @@ use lib.ListN.{length, get_or}
 use lib.Ieee.{Float, binary64, of_bits}
 use Rattle.dispersion.specs.declared.Pole.{Pole}
 use Rattle.dispersion.specs.declared.Pole.TheVariants.{Lorentz, Drude, Debye}
-use Rattle.dispersion.specs.declared.PoleSlot.{PoleSlot}
 use Rattle.dispersion.specs.declared.DispersiveMaterial.{DispersiveMaterial}
 use Rattle.grid.specs.declared.RegionKind.{RegionKind}
 use Rattle.grid.specs.declared.RegionKind.TheVariants.{Absent, SlabZ, InjectorZ, BoxRegion}
@@ -25,12 +24,12 @@ pole_long (Lorentz a b c) = refl
 pole_long (Drude a b) = refl
 pole_long (Debye a b) = refl
 
-pub slot_long : (counted : Bool) (s : PoleSlot) → length (slot_nums counted s) ≡ 4
-slot_long true s = pole_long s.pole
+pub slot_long : (counted : Bool) (s : Pole) → length (slot_nums counted s) ≡ 4
+slot_long true s = pole_long s
 slot_long false s = refl
 
 -- a place that is there, whatever stands past the end
-pub at_any : (l : List PoleSlot) (i : ℕ) (s t : PoleSlot) → i < length l → get_or l i s ≡ get_or l i t
+pub at_any : (l : List Pole) (i : ℕ) (s t : Pole) → i < length l → get_or l i s ≡ get_or l i t
 at_any [] i s t h = absurd (not-suc-le-zero h)
 at_any (x ∷ l) zero s t h = refl
 at_any (x ∷ l) (suc i) s t h = at_any l i s t (le_of_suc-le-suc h)

@@ -7,7 +7,6 @@ use Rattle.codec.specs.Bytes.{bits, fine}
 use Rattle.root.specs.declared.Spacings.{Spacings}
 use Rattle.dispersion.specs.declared.Pole.{Pole}
 use Rattle.dispersion.specs.declared.Pole.TheVariants.{Lorentz, Drude, Debye}
-use Rattle.dispersion.specs.declared.PoleSlot.{PoleSlot}
 use Rattle.dispersion.specs.declared.DispersiveMaterial.{DispersiveMaterial}
 use Rattle.dispersion.specs.Material.{blank_slot}
 use Rattle.cells.specs.Cells.{joined, row}
@@ -89,8 +88,8 @@ pole_of tag x y z = cond (eqb tag 1) (Lorentz x y z) (cond (eqb tag 2) (Drude x 
 abbrev pub is_tag : ℕ → Bool
 is_tag tag = leb 1 tag && leb tag 3
 
-abbrev pub slot_nums : (counted : Bool) → PoleSlot → List ℕ
-slot_nums counted s = cond counted (pole_nums s.pole) (0 ∷ 0 ∷ 0 ∷ 0 ∷ [])
+abbrev pub slot_nums : (counted : Bool) → Pole → List ℕ
+slot_nums counted p = cond counted (pole_nums p) (0 ∷ 0 ∷ 0 ∷ 0 ∷ [])
 
 unfoldable pub ml_nums : DispersiveMaterial → List ℕ
 ml_nums m =
@@ -144,8 +143,8 @@ gh_fine l = gh_shaped l && all_below (λ i. fine (get_or l (20 + i) 0)) 5
 abbrev pub at_slot : {A : Type 0} → (f : (tag a b c : ℕ) → A) → List ℕ → ℕ → A
 at_slot f l i = f (get_or l (4 + 4 * i) 0) (get_or l (5 + 4 * i) 0) (get_or l (6 + 4 * i) 0) (get_or l (7 + 4 * i) 0)
 
-abbrev pub slot_of : (tag a b c : ℕ) → PoleSlot
-slot_of tag a b c = record { pole = pole_of tag (of_bits binary64 a) (of_bits binary64 b) (of_bits binary64 c) }
+abbrev pub slot_of : (tag a b c : ℕ) → Pole
+slot_of tag a b c = pole_of tag (of_bits binary64 a) (of_bits binary64 b) (of_bits binary64 c)
 
 unfoldable pub ml_of : List ℕ → DispersiveMaterial
 ml_of l =

@@ -6,7 +6,7 @@ ghost use Rattle.grid.specs.Canon.{canon_region};
 ghost use Rattle.heads.specs.Numbers.{kind_num, kind_of, pole_nums, pole_of, slot_nums, slot_of, ml_of, flag_num, flag_nums, float_nums, gh_of};
 
 use codec::floats;
-use dispersion::{DispersiveMaterial, Pole, PoleSlot};
+use dispersion::{DispersiveMaterial, Pole};
 use grid::{Clock, Record, Region, RegionKind, fault};
 use root::Spacings;
 
@@ -67,13 +67,12 @@ fn pole_nums(p: Pole) -> [u64; 4]
     }
 }
 
-pub fn slot_nums(counted: bool, s: PoleSlot) -> [u64; 4]
-    ensures { result ≡ slot_nums counted s }
+pub fn slot_nums(counted: bool, p: Pole) -> [u64; 4]
+    ensures { result ≡ slot_nums counted p }
 {
     if !counted {
         return [0, 0, 0, 0];
     }
-    let p = s.pole;
     pole_nums(p)
 }
 
@@ -100,15 +99,13 @@ pub fn pole_of(tag: u64, x: f64, y: f64, z: f64) -> Pole
     }
 }
 
-fn slot_of(tag: u64, a: u64, b: u64, c: u64) -> PoleSlot
+fn slot_of(tag: u64, a: u64, b: u64, c: u64) -> Pole
     ensures { result ≡ slot_of tag a b c }
 {
     let x = floats::float_of(a);
     let y = floats::float_of(b);
     let z = floats::float_of(c);
-    PoleSlot {
-        pole: pole_of(tag, x, y, z),
-    }
+    pole_of(tag, x, y, z)
 }
 
 pub fn ml_of(n: [u64; 20]) -> DispersiveMaterial

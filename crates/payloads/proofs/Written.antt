@@ -9,7 +9,7 @@ use Rattle.codec.specs.Lists.{put}
 use Rattle.codec.specs.Bytes.{le, enc, total, bits}
 use Rattle.codec.proofs.Row.{put_more}
 use Rattle.root.specs.declared.Spacings.{Spacings}
-use Rattle.dispersion.specs.declared.PoleSlot.{PoleSlot}
+use Rattle.dispersion.specs.declared.Pole.{Pole}
 use Rattle.dispersion.specs.declared.DispersiveMaterial.{DispersiveMaterial}
 use Rattle.dispersion.specs.Material.{blank_slot}
 use Rattle.cells.specs.Cells.{joined}
@@ -61,7 +61,7 @@ head_put l m o at r f g k ef eg ek h p q =
     ∙ rw (ek, eg)
 
 -- ---- a material
-module _ (m : DispersiveMaterial) (e : PoleSlot) (long : length m.poles ≡ 4) where
+module _ (m : DispersiveMaterial) (e : Pole) (long : length m.poles ≡ 4) where
   abbrev numbers : (i : ℕ) → List ℕ
   numbers i = slot_nums (ltb i m.pole_count) (get_or m.poles i blank_slot)
 

@@ -1,9 +1,9 @@
 // The eleven records, each written straight to its place.
 #![tactic(auto)]
 
-ghost use Rattle.std.specs.Prelude.{◌≡◌, cond, [], ◌∷◌, ◌+◌, ◌*◌, ◌≤◌, length};
+ghost use Rattle.std.specs.Prelude.{◌≡◌, cond, [], ◌∷◌, ◌+◌, ◌*◌, ◌≤◌, ◌<◌, length};
 ghost use Rattle.codec.specs.Lists.{put};
-ghost use Rattle.codec.specs.Bytes.{floats_bytes, ids_bytes};
+ghost use Rattle.codec.specs.Bytes.{bytes_of, floats_bytes, ids_bytes};
 ghost use Rattle.grid.specs.Stores.{stores};
 ghost use Rattle.cpml.specs.Memory.{memory_of};
 ghost use Rattle.heads.specs.Numbers.{ml_length};
@@ -13,6 +13,7 @@ ghost use Rattle.format.specs.Save.{mark_gh, mark_ml, mark_ci, mark_cm, mark_fe,
 ghost use Rattle.puts.specs.Inner.Places.{list_place, stores_place};
 ghost use Rattle.puts.specs.Inner.Room.{Roomy};
 
+use codec::stores::Element;
 use codec::{frame, stores};
 use cpml::{Psi, memory};
 use format::{AX, CI, CM, FE, FH, GH, LE, LH, LT, ML, PP};
@@ -24,24 +25,14 @@ const LIST_PLACE: usize = 6 + GH_LENGTH;
 
 pub const ENTRIES_PLACE: usize = LIST_PLACE + 6;
 
-// A record of floats; the place after it.
-fn put_floats(out: &mut [u8], at: usize, mark: u16, xs: &[f64]) -> usize
-    requires { (at + (6 + 8 * length xs.now) ≤ length out.old) × (length xs.now ≤ 28311552) }
-    ensures { (result ≡ at + (6 + 8 * length xs.now)) × (out.new ≡ put out.old at (frames (piece mark (floats_bytes xs.now) ∷ []))) }
+// A store's record; the place after it.
+fn put_store<T: Element>(out: &mut [u8], at: usize, mark: u16, xs: &[T]) -> usize
+    requires { (at + (6 + T.WIDTH * length xs.now) ≤ length out.old) × (T.WIDTH * length xs.now < 4294967296) }
+    ensures { (result ≡ at + (6 + T.WIDTH * length xs.now)) × (out.new ≡ put out.old at (frames (piece mark (bytes_of T.WIDTH T.number xs.now) ∷ []))) }
 {
-    let n = 8 * xs.len();
+    let n = T::WIDTH * xs.len();
     frame::put_frame(out, at, mark, n as u32);
     stores::put_all(out, at + 6, xs);
-    at + (6 + n)
-}
-
-fn put_ids(out: &mut [u8], at: usize, ids: &[u32]) -> usize
-    requires { (at + (6 + 4 * length ids.now) ≤ length out.old) × (length ids.now ≤ 28311552) }
-    ensures { (result ≡ at + (6 + 4 * length ids.now)) × (out.new ≡ put out.old at (frames (piece mark_ci (ids_bytes ids.now) ∷ []))) }
-{
-    let n = 4 * ids.len();
-    frame::put_frame(out, at, CI, n as u32);
-    stores::put_all(out, at + 6, ids);
     at + (6 + n)
 }
 
@@ -50,12 +41,8 @@ fn put_list(out: &mut [u8], at: usize, r: Record)
     requires { (at + ml_length * r.material_count ≤ length out.old) × (r.material_count ≤ 16) }
     ensures { out.new ≡ put out.old at (list_bytes r) }
 {
-    let count = r.material_count;
-    let mut i = 0;
-    while i < count {
-        let m = r.materials[i];
-        payloads::put_ml(out, at + ML_LENGTH * i, m);
-        i += 1;
+    for i in 0..r.material_count {
+        payloads::put_ml(out, at + ML_LENGTH * i, r.materials[i]);
     }
 }
 
@@ -82,10 +69,10 @@ fn put_cells(out: &mut [u8], at: usize, ids: &[u32], media: &[f64], e: &[f64], h
     requires { (at + (24 + 4 * length ids.now + 8 * length media.now + 8 * length e.now + 8 * length h.now) ≤ length out.old) × (length ids.now ≤ 28311552) × (length media.now ≤ 28311552) × (length e.now ≤ 28311552) × (length h.now ≤ 28311552) }
     ensures { (result ≡ at + (24 + 4 * length ids.now + 8 * length media.now + 8 * length e.now + 8 * length h.now)) × (out.new ≡ put out.old at (frames (piece mark_ci (ids_bytes ids.now) ∷ piece mark_cm (floats_bytes media.now) ∷ piece mark_fe (floats_bytes e.now) ∷ piece mark_fh (floats_bytes h.now) ∷ []))) }
 {
-    let p = put_ids(out, at, ids);
-    let q = put_floats(out, p, CM, media);
-    let s = put_floats(out, q, FE, e);
-    put_floats(out, s, FH, h)
+    let p = put_store(out, at, CI, ids);
+    let q = put_store(out, p, CM, media);
+    let s = put_store(out, q, FE, e);
+    put_store(out, s, FH, h)
 }
 
 // One memory of the layer.
@@ -116,11 +103,9 @@ fn put_six<'a>(
     requires { (at + 48 * n ≤ length out.old) × (length psi_e.now ≡ 6 * n) × (length psi_h.now ≡ 6 * n) }
     ensures { out.new ≡ put out.old at (floats_bytes (cond electric psi_e.now psi_h.now)) }
 {
-    let mut k = 0;
-    while k < 6 {
+    for k in 0..6 {
         let which = memory::in_order(electric, k);
         put_memory(out, at + 8 * (k * n), which, psi_e, psi_h, n);
-        k += 1;
     }
 }
 
@@ -157,7 +142,7 @@ fn put_layer<'a>(
 {
     let p = put_memories(out, at, LE, true, psi_e, psi_h, n);
     let q = put_memories(out, p, LH, false, psi_e, psi_h, n);
-    put_floats(out, q, LT, tables)
+    put_store(out, q, LT, tables)
 }
 
 // PP, AX.
@@ -165,8 +150,8 @@ fn put_ends(out: &mut [u8], at: usize, poles: &[f64], aux: &[f64])
     requires { (at + (12 + 8 * length poles.now + 8 * length aux.now) ≤ length out.old) × (length poles.now ≤ 28311552) × (length aux.now ≤ 28311552) }
     ensures { out.new ≡ put out.old at (frames (piece mark_pp (floats_bytes poles.now) ∷ piece mark_ax (floats_bytes aux.now) ∷ [])) }
 {
-    let p = put_floats(out, at, PP, poles);
-    put_floats(out, p, AX, aux);
+    let p = put_store(out, at, PP, poles);
+    put_store(out, p, AX, aux);
 }
 
 pub fn put_save<'a>(

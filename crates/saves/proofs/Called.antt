@@ -1,20 +1,13 @@
--- The ends of a save, refused and accepted. Assumes nothing.
-use Prim.Native.Nat.{ℕ, ◌+◌, ◌*◌, ◌≤◌, ◌<◌}
+-- There is room for what a save writes and reads. Assumes nothing.
+use Prim.Native.Nat.{ℕ, ◌+◌, ◌*◌, ◌≤◌}
 use native.Mathlib.Omega.{arith}
-use mathlib.Core.Path.{◌≡◌, refl, sym, ap, ◌∙◌}
-use mathlib.Core.Bool.{Bool}
-use mathlib.Core.List.{List}
-use borrow.Author.Tests.{le-leb, lt-leb}
+use mathlib.Core.Path.{◌≡◌, ap}
 use lib.ListN.{length}
-use Rattle.codec.specs.Lists.{put}
 use Rattle.grid.specs.declared.Record.{Record}
 use Rattle.grid.specs.declared.stores.Lengths.{Lengths}
-use Rattle.grid.specs.Fault.{first}
 use Rattle.grid.specs.Inner.Sound.{Sound}
-use Rattle.grid.specs.Stores.{Stores, outcome, cells, store_lengths, lengths_of, fault_with}
-use Rattle.grid.proofs.Settled.{turned_down, taken_up, with_none}
-use Rattle.grid.proofs.Tests.{or_stays, or_goes}
-use Rattle.format.specs.Save.{save_bytes, save_length, save_fault, save_call, no_room}
+use Rattle.grid.specs.Stores.{Stores, cells, store_lengths, lengths_of}
+use Rattle.format.specs.Save.{save_length}
 use Rattle.puts.specs.Inner.Room.{Roomy}
 use Rattle.format.proofs.Written.{pole_count_lem}
 
@@ -51,27 +44,3 @@ roomy r s n bytes k fit q l =
       i = omega (arith, e9, k.cells);
       all = omega (arith, e1, e2, e3, e4, e5, e6, e7, e8, e9, open7, l, q);
     }
-
-module _ (r : Record) (s : Stores) (room : List ℕ) (f : ℕ) (e : f ≡ fault_with r (lengths_of s)) where
-  pub save_refused : (f ≡ 0 → ⊥) → outcome f r room ≡ save_call r s room
-  unfolding save_call save_fault
-  save_refused h = turned_down f _ r _ room _ (or_stays f (fault_with r (lengths_of s)) _ e h) h
-
-  module _ (h : f ≡ 0) (n : ℕ) (q : n ≡ save_length r) where
-    pub save_sound : Sound r
-    save_sound = (with_none r (lengths_of s) (sym e ∙ h)).0
-
-    pub save_roomless : length room < n → outcome 12 r room ≡ save_call r s room
-    unfolding save_call save_fault
-    save_roomless l =
-        turned_down 12 _ r _ room _
-        (or_goes f (fault_with r (lengths_of s)) _ 12 e h (sym (ap (λ (t : Bool). first t no_room 0) (lt-leb (save_length r) (length room) (omega (arith, l, q)))))) (λ z. let w : ⊥ = omega arith in w)
-
-    pub save_done : (o : List ℕ) → n ≤ length room → o ≡ put room 0 (save_bytes r s) → outcome 0 r o ≡ save_call r s room
-    unfolding save_call save_fault
-    save_done o l w =
-        taken_up 0 _ r r r room o (put room 0 (save_bytes r s))
-        (or_goes f (fault_with r (lengths_of s)) _ 0 e h (sym (ap (λ (t : Bool). first t no_room 0) (le-leb (save_length r) (length room) (omega (arith, l, q)))))) refl refl w
-
-    pub save_roomy : n ≤ length room → RoomFor r s (length room)
-    save_roomy l = roomy r s n (length room) save_sound (with_none r (lengths_of s) (sym e ∙ h)).1 q l

@@ -7,21 +7,20 @@ use mathlib.Core.List.{List, [], ◌∷◌}
 use lib.Dec.{T, ltb, lt→ltb}
 use lib.ListN.{length, get_or, drop}
 use lib.Seq.{drop-drop}
-use lib.Ieee.{Float}
 use Rattle.codec.specs.Bytes.{bytes_fit, floats_of, ids_of}
 use Rattle.codec.proofs.Lists.{every_of}
 use Rattle.grid.specs.declared.Record.{Record}
 use Rattle.grid.specs.declared.stores.Lengths.{Lengths}
 use Rattle.grid.specs.Fault.{fault_of}
-use Rattle.grid.specs.Stores.{Stores, stores, outcome, store_lengths, lengths_of, same_lengths, lent_fault, fault_lent, fault_with}
-use Rattle.grid.proofs.Settled.{turned_down, taken_up, with_none}
+use Rattle.grid.specs.Stores.{Stores, store_lengths, lengths_of, same_lengths, lent_fault, fault_lent, fault_with}
+use Rattle.grid.proofs.Settled.{with_none}
 use Rattle.grid.proofs.Judging.{sound}
-use Rattle.grid.proofs.Tests.{or_none, or_stays}
+use Rattle.grid.proofs.Tests.{or_none}
 use Rattle.heads.specs.Numbers.{gh_of}
 use Rattle.heads.specs.Payloads.{head_by, count_of, materials_of, record_of}
 use Rattle.format.specs.Records.{Expected, record_fault, records_fault, payload_from}
 use Rattle.format.specs.Save.{save_length}
-use Rattle.format.specs.Rewind.{is_old, save_head, bare, head_record, list_record, table, table_by, table_of, bytes_fault, payload_of, read_record, read_stores, rewind_fault, rewind_call}
+use Rattle.format.specs.Rewind.{is_old, save_head, bare, head_record, list_record, table, table_by, table_of, bytes_fault, payload_of, read_record, read_stores, rewind_fault}
 use Rattle.saves.specs.Inner.Places.{list_from, entries_from, stores_from, stores_at}
 use Rattle.format.proofs.Bare.{bare_lengths}
 use Rattle.format.proofs.Back.{nine_same}
@@ -84,23 +83,6 @@ at_place [] i l h = absurd (let z : ⊥ = omega arith in z)
 at_place (e ∷ es) zero l h = refl
 at_place (e ∷ es) (suc i) l h = at_place es i (drop (6 + e.size) l) (omega arith) ∙ drop-drop (place_of es i) (6 + e.size) l
 
-pub stores_got : (n : Lengths) (b : List ℕ) (at p q : ℕ) (e h m pe ph t po a : List Float) (i : List ℕ) →
-    (p ≡ at + (24 + 4 * n.ids + 8 * n.media + 8 * n.electric + 8 * n.magnetic)) × (i ≡ ids_of n.ids (drop (at + 6) b))
-    × (m ≡ floats_of n.media (drop (at + (12 + 4 * n.ids)) b)) × (e ≡ floats_of n.electric (drop (at + (18 + 4 * n.ids + 8 * n.media)) b))
-    × (h ≡ floats_of n.magnetic (drop (at + (24 + 4 * n.ids + 8 * n.media + 8 * n.electric)) b)) →
-    (q ≡ p + (18 + 8 * n.psi_e + 8 * n.psi_h + 8 * n.tables)) × (pe ≡ floats_of n.psi_e (drop (p + 6) b))
-    × (ph ≡ floats_of n.psi_h (drop (p + (12 + 8 * n.psi_e)) b)) × (t ≡ floats_of n.tables (drop (p + (18 + 8 * n.psi_e + 8 * n.psi_h)) b)) →
-    (po ≡ floats_of n.poles (drop (q + 6) b)) × (a ≡ floats_of n.aux (drop (q + (12 + 8 * n.poles)) b)) → stores e h m pe ph t po a i ≡ stores_at n b at
-unfolding stores_at
-stores_got n b at p q e h m pe ph t po a i x y z =
-    let k4 : p + 6 ≡ at + (30 + 4 * n.ids + 8 * n.media + 8 * n.electric + 8 * n.magnetic) = omega (arith, x.0) in
-    let k5 : p + (12 + 8 * n.psi_e) ≡ at + (36 + 4 * n.ids + 8 * n.media + 8 * n.electric + 8 * n.magnetic + 8 * n.psi_e) = omega (arith, x.0) in
-    let k6 : p + (18 + 8 * n.psi_e + 8 * n.psi_h) ≡ at + (42 + 4 * n.ids + 8 * n.media + 8 * n.electric + 8 * n.magnetic + 8 * n.psi_e + 8 * n.psi_h) = omega (arith, x.0) in
-    let k7 : q + 6 ≡ at + (48 + 4 * n.ids + 8 * n.media + 8 * n.electric + 8 * n.magnetic + 8 * n.psi_e + 8 * n.psi_h + 8 * n.tables) = omega (arith, x.0, y.0) in
-    let k8 : q + (12 + 8 * n.poles) ≡ at + (54 + 4 * n.ids + 8 * n.media + 8 * n.electric + 8 * n.magnetic + 8 * n.psi_e + 8 * n.psi_h + 8 * n.tables + 8 * n.poles) = omega (arith, x.0, y.0) in
-    nine_same _ _ _ _ _ _ _ _ _ _ _ _ _ _ _ _ _ _ x.3 x.4 x.2 (y.1 ∙ ap (λ (k : ℕ). floats_of n.psi_e (drop k b)) k4) (y.2 ∙ ap (λ (k : ℕ). floats_of n.psi_h (drop k b)) k5)
-    (y.3 ∙ ap (λ (k : ℕ). floats_of n.tables (drop k b)) k6) (z.0 ∙ ap (λ (k : ℕ). floats_of n.poles (drop k b)) k7) (z.1 ∙ ap (λ (k : ℕ). floats_of n.aux (drop k b)) k8) x.1
-
 module _ (b : List ℕ) where
   abbrev n : Lengths
   n = store_lengths (bare (save_head b))
@@ -127,60 +109,43 @@ module _ (b : List ℕ) where
       (ap (floats_of n.aux) (place 10 (at + (54 + 4 * n.ids + 8 * n.media + 8 * n.electric + 8 * n.magnetic + 8 * n.psi_e + 8 * n.psi_h + 8 * n.tables + 8 * n.poles)) (omega arith) (omega arith)))
       (ap (ids_of n.ids) (place 2 (at + 6) (omega arith) (omega arith)))
 
--- ---- the ends of a rewind
-module _ (standing : Record) (s : Stores) (b : List ℕ) (f : ℕ) (p : f ≡ bytes_fault b) where
-  pub rewind_bad : (f ≡ 0 → ⊥) → outcome f standing s ≡ rewind_call standing s b
-  unfolding rewind_call rewind_fault
-  rewind_bad h = turned_down f _ standing _ s _ (or_stays f (bytes_fault b) _ p h) h
+-- ---- bytes without fault, from which a record and stores are read
+module _ (b : List ℕ) (none : 0 ≡ bytes_fault b) (small : (i : ℕ) → get_or b i 0 < 256) {r : Record} (own : r ≡ read_record b) where
+  bytes : T (bytes_fit b)
+  bytes = all_bytes b small
 
-  module _ (h : f ≡ 0) (small : (i : ℕ) → get_or b i 0 < 256) (r : Record) (own : r ≡ read_record b) where
-    none : bytes_fault b ≡ 0
-    none = sym p ∙ h
+  pub count_own : r.material_count ≡ count_of (save_head b)
+  unfolding read_record gh_of
+  count_own = ap (λ (q : Record). q.material_count) own
 
-    bytes : T (bytes_fit b)
-    bytes = all_bytes b small
+  pub count_small : r.material_count ≤ 16
+  count_small = omega (arith, count_own, ml_few b (sym none))
 
-    pub count_own : r.material_count ≡ count_of (save_head b)
-    unfolding read_record gh_of
-    count_own = ap (λ (q : Record). q.material_count) own
+  module _ (s : Stores) where
+    pub fault_is : fault_with r (lengths_of s) ≡ rewind_fault b (lengths_of s)
+    unfolding rewind_fault fault_lent
+    fault_is =
+        let same = same_lengths (lengths_of s) (store_lengths (read_record b)) in
+        ap (λ (t : Record). lent_fault (fault_of t) (same_lengths (lengths_of s) (store_lengths t))) own
+        ∙ ap (λ (i : ℕ). lent_fault i same) (read_none b bytes (sym none) ∙ none)
 
-    pub count_small : r.material_count ≤ 16
-    count_small = omega (arith, count_own, ml_few b none)
+    module _ (fits : 0 ≡ fault_with r (lengths_of s)) where
+      fit : lengths_of s ≡ store_lengths (read_record b)
+      fit = (with_none r (lengths_of s) (sym fits)).1 ∙ ap store_lengths own
 
-    module _ (k : ℕ) (q : k ≡ fault_with r (lengths_of s)) where
-      fault_is : k ≡ rewind_fault b (lengths_of s)
-      unfolding rewind_fault fault_lent
-      fault_is =
-          let same = same_lengths (lengths_of s) (store_lengths (read_record b)) in
-          q
-          ∙ ap (λ (t : Record). lent_fault (fault_of t) (same_lengths (lengths_of s) (store_lengths t))) own
-          ∙ ap (λ (i : ℕ). lent_fault i same) (read_none b bytes none ∙ sym none)
+      -- the bytes are enough for what is read from them
+      pub stores_room : (at : ℕ) → at ≡ stores_from (is_old b) r.material_count →
+          at + (54 + 4 * length s.ids + 8 * length s.media + 8 * length s.electric + 8 * length s.magnetic + 8 * length s.psi_e + 8 * length s.psi_h + 8 * length s.tables + 8 * length s.poles + 8 * length s.aux) ≤ length b
+      stores_room at e =
+          let room : RoomFor (read_record b) s (save_length (read_record b)) = roomy (read_record b) s (save_length (read_record b)) (save_length (read_record b)) (sound (read_record b) (read_none b bytes (sym none))) fit refl (omega arith) in
+          omega (arith, e, ap (λ (q : Record). q.material_count) own, room.all, read_long b bytes (sym none))
 
-      pub rewind_unfit : (k ≡ 0 → ⊥) → outcome k standing s ≡ rewind_call standing s b
-      unfolding rewind_call
-      rewind_unfit z = turned_down k (rewind_fault b (lengths_of s)) standing _ s _ fault_is z
-
-      module _ (z : k ≡ 0) where
-        fit : lengths_of s ≡ store_lengths (read_record b)
-        fit = (with_none r (lengths_of s) (sym q ∙ z)).1 ∙ ap store_lengths own
-
-        room : RoomFor r s (save_length (read_record b))
-        room =
-            subst (λ (t : Record). RoomFor t s (save_length (read_record b))) (sym own)
-            (roomy (read_record b) s (save_length (read_record b)) (save_length (read_record b)) (sound (read_record b) (read_none b bytes none)) fit refl (omega arith))
-
-        -- the bytes are enough for what is read from them
-        pub rewind_room : (at : ℕ) → at ≡ stores_from (is_old b) r.material_count →
-            at + (54 + 4 * length s.ids + 8 * length s.media + 8 * length s.electric + 8 * length s.magnetic + 8 * length s.psi_e + 8 * length s.psi_h + 8 * length s.tables + 8 * length s.poles + 8 * length s.aux) ≤ length b
-        rewind_room at e = omega (arith, e, room.all, read_long b bytes none)
-
-        pub rewind_done : (t : Stores) (at : ℕ) → at ≡ stores_from (is_old b) r.material_count → t ≡ stores_at (lengths_of s) b at → outcome 0 r t ≡ rewind_call standing s b
-        unfolding rewind_call read_record
-        rewind_done t at f e =
-            let lengths : lengths_of s ≡ store_lengths (bare (save_head b)) = fit ∙ sym (bare_lengths (save_head b) (materials_of (count_of (save_head b)) (payload_of b 1))) in
-            taken_up k (rewind_fault b (lengths_of s)) standing r (read_record b) s t (read_stores b) fault_is z own
-            (e
-            ∙ ap (stores_at (lengths_of s) b) f
-            ∙ ap (λ (l : Lengths). stores_at l b (stores_from (is_old b) r.material_count)) lengths
-            ∙ ap (λ (c : ℕ). stores_at (store_lengths (bare (save_head b))) b (stores_from (is_old b) c)) count_own
-            ∙ stores_read b)
+      pub stores_said : (t : Stores) (at : ℕ) → at ≡ stores_from (is_old b) r.material_count → t ≡ stores_at (lengths_of s) b at → t ≡ read_stores b
+      unfolding read_record
+      stores_said t p f e =
+          let lengths : lengths_of s ≡ store_lengths (bare (save_head b)) = fit ∙ sym (bare_lengths (save_head b) (materials_of (count_of (save_head b)) (payload_of b 1))) in
+          e
+          ∙ ap (stores_at (lengths_of s) b) f
+          ∙ ap (λ (l : Lengths). stores_at l b (stores_from (is_old b) r.material_count)) lengths
+          ∙ ap (λ (c : ℕ). stores_at (store_lengths (bare (save_head b))) b (stores_from (is_old b) c)) count_own
+          ∙ stores_read b

@@ -1,11 +1,12 @@
 // The study that a save without fault says.
 ghost use Rattle.std.specs.Prelude.{◌≡◌, ◌+◌, ◌*◌, ◌≤◌, length, drop};
-ghost use Rattle.codec.specs.Bytes.{floats_of, ids_of};
+ghost use Rattle.codec.specs.Bytes.{elements_of};
 ghost use Rattle.grid.specs.Stores.{stores, lengths_of};
 ghost use Rattle.format.specs.Rewind.{is_old, bytes_fault, read_record};
 ghost use Rattle.saves.specs.Inner.Places.{entries_from, stores_from, stores_at};
 
 use codec::stores;
+use codec::stores::Element;
 use grid::Record;
 use heads::{ML_LENGTH, OLD_LENGTH};
 use puts::ENTRIES_PLACE;
@@ -39,51 +40,14 @@ pub fn stores_from(b: &[u8], materials: usize) -> usize
     at + ML_LENGTH * materials
 }
 
-// CI, CM, FE, FH; the place after them.
-fn get_cells(
-    b: &[u8],
-    at: usize,
-    ids: &mut [u32],
-    media: &mut [f64],
-    e: &mut [f64],
-    h: &mut [f64],
-) -> usize
-    requires { at + (24 + 4 * length ids.old + 8 * length media.old + 8 * length e.old + 8 * length h.old) ≤ length b.now }
-    ensures { (result ≡ at + (24 + 4 * length ids.old + 8 * length media.old + 8 * length e.old + 8 * length h.old)) × (ids.new ≡ ids_of (length ids.old) (drop (at + 6) b.now)) × (media.new ≡ floats_of (length media.old) (drop (at + (12 + 4 * length ids.old)) b.now)) × (e.new ≡ floats_of (length e.old) (drop (at + (18 + 4 * length ids.old + 8 * length media.old)) b.now)) × (h.new ≡ floats_of (length h.old) (drop (at + (24 + 4 * length ids.old + 8 * length media.old + 8 * length e.old)) b.now)) }
+// A store from its record that begins at `at`; the place after it.
+fn get_store<T: Element>(b: &[u8], at: usize, s: &mut [T]) -> usize
+    requires { at + (6 + T.WIDTH * length s.old) ≤ length b.now }
+    ensures next { result ≡ at + (6 + T.WIDTH * length s.old) }
+    ensures store { s.new ≡ elements_of T.WIDTH T.element (length s.old) (drop (at + 6) b.now) }
 {
-    let p = at + (12 + 4 * ids.len());
-    let q = at + (18 + 4 * ids.len() + 8 * media.len());
-    let s = at + (24 + 4 * ids.len() + 8 * media.len() + 8 * e.len());
-    let end = at + (24 + 4 * ids.len() + 8 * media.len() + 8 * e.len() + 8 * h.len());
-    stores::get_all(b, at + 6, ids);
-    stores::get_all(b, p, media);
-    stores::get_all(b, q, e);
-    stores::get_all(b, s, h);
-    end
-}
-
-// LE, LH, LT; the place after them.
-fn get_layer(b: &[u8], at: usize, psi_e: &mut [f64], psi_h: &mut [f64], tables: &mut [f64]) -> usize
-    requires { at + (18 + 8 * length psi_e.old + 8 * length psi_h.old + 8 * length tables.old) ≤ length b.now }
-    ensures { (result ≡ at + (18 + 8 * length psi_e.old + 8 * length psi_h.old + 8 * length tables.old)) × (psi_e.new ≡ floats_of (length psi_e.old) (drop (at + 6) b.now)) × (psi_h.new ≡ floats_of (length psi_h.old) (drop (at + (12 + 8 * length psi_e.old)) b.now)) × (tables.new ≡ floats_of (length tables.old) (drop (at + (18 + 8 * length psi_e.old + 8 * length psi_h.old)) b.now)) }
-{
-    let p = at + (12 + 8 * psi_e.len());
-    let q = at + (18 + 8 * psi_e.len() + 8 * psi_h.len());
-    let end = at + (18 + 8 * psi_e.len() + 8 * psi_h.len() + 8 * tables.len());
-    stores::get_all(b, at + 6, psi_e);
-    stores::get_all(b, p, psi_h);
-    stores::get_all(b, q, tables);
-    end
-}
-
-// PP, AX.
-fn get_ends(b: &[u8], at: usize, poles: &mut [f64], aux: &mut [f64])
-    requires { at + (12 + 8 * length poles.old + 8 * length aux.old) ≤ length b.now }
-    ensures { (poles.new ≡ floats_of (length poles.old) (drop (at + 6) b.now)) × (aux.new ≡ floats_of (length aux.old) (drop (at + (12 + 8 * length poles.old)) b.now)) }
-{
-    let p = at + (12 + 8 * poles.len());
-    stores::get_all(b, at + 6, poles);
-    stores::get_all(b, p, aux);
+    stores::get_all(b, at + 6, s);
+    at + (6 + T::WIDTH * s.len())
 }
 
 // The nine stores, from the records that begin at `at`.
@@ -103,7 +67,13 @@ pub fn get_stores(
     requires { at + (54 + 4 * length ids.old + 8 * length media.old + 8 * length e.old + 8 * length h.old + 8 * length psi_e.old + 8 * length psi_h.old + 8 * length tables.old + 8 * length poles.old + 8 * length aux.old) ≤ length b.now }
     ensures { stores e.new h.new media.new psi_e.new psi_h.new tables.new poles.new aux.new ids.new ≡ stores_at (lengths_of (stores e.old h.old media.old psi_e.old psi_h.old tables.old poles.old aux.old ids.old)) b.now at }
 {
-    let p = get_cells(b, at, ids, media, e, h);
-    let q = get_layer(b, p, psi_e, psi_h, tables);
-    get_ends(b, q, poles, aux);
+    let at = get_store(b, at, ids);
+    let at = get_store(b, at, media);
+    let at = get_store(b, at, e);
+    let at = get_store(b, at, h);
+    let at = get_store(b, at, psi_e);
+    let at = get_store(b, at, psi_h);
+    let at = get_store(b, at, tables);
+    let at = get_store(b, at, poles);
+    get_store(b, at, aux);
 }

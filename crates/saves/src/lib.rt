@@ -4,24 +4,17 @@
 pub mod gets;
 
 ghost use Rattle.std.specs.Prelude.{◌≡◌};
+ghost use Rattle.refusals.specs.Refusals.{code, value_or};
+ghost use Rattle.grid.specs.declared.Record.{Record};
 ghost use Rattle.grid.specs.Stores.{stores, outcome};
 ghost use Rattle.grid.specs.Inner.Sound.{Sound};
 ghost use Rattle.format.specs.Save.{save_length, length_call, save_call};
 ghost use Rattle.format.specs.Rewind.{rewind_call};
 
-use grid::stores::Lengths;
-use grid::{Answer, Record, fault, stores};
+use grid::{Record, fault, stores};
+use refusals::{Refusal, require};
 
-pub const NO_ROOM: u32 = 12;
-
-// The refusal, the record as it came, and the bytes that its save takes.
-#[derive(Clone, Copy)]
-pub struct Length {
-    pub refusal: u32,
-    pub study: Record,
-    pub length: usize,
-}
-
+#[tactic(auto, unfolding(format::specs::Save::save_length))]
 fn length_of(r: Record) -> usize
     requires { Sound r }
     ensures { result ≡ save_length r }
@@ -34,22 +27,12 @@ fn length_of(r: Record) -> usize
         + 16 * r.nz
 }
 
-pub fn save_length(r: Record) -> Length
-    ensures { outcome result.refusal result.study result.length ≡ length_call r }
+// The bytes that the record's save takes.
+pub fn save_length(r: Record) -> Result<usize, Refusal>
+    ensures { outcome (code result) r (value_or 0 result) ≡ length_call r }
 {
-    let f = fault::fault_of(r);
-    if f != 0 {
-        return Length {
-            refusal: f,
-            study: r,
-            length: 0,
-        };
-    }
-    Length {
-        refusal: 0,
-        study: r,
-        length: length_of(r),
-    }
+    fault::fault_of(r)?;
+    Ok(length_of(r))
 }
 
 // Writes the study's save to the front of the lent bytes.
@@ -65,43 +48,18 @@ pub fn save<'a>(
     aux: &[f64],
     ids: &[u32],
     out: &mut [u8],
-) -> Answer
-    ensures { outcome result.refusal result.study out.new ≡ save_call r (stores e.now h.now media.now psi_e.now psi_h.now tables.now poles.now aux.now ids.now) out.old }
+) -> Result<(), Refusal>
+    ensures { outcome (code result) r out.new ≡ save_call r (stores e.now h.now media.now psi_e.now psi_h.now tables.now poles.now aux.now ids.now) out.old }
 {
-    let lent = Lengths {
-        electric: e.len(),
-        magnetic: h.len(),
-        media: media.len(),
-        psi_e: psi_e.len(),
-        psi_h: psi_h.len(),
-        tables: tables.len(),
-        poles: poles.len(),
-        aux: aux.len(),
-        ids: ids.len(),
-    };
-    let f = stores::fault_with(r, lent);
-    if f != 0 {
-        return Answer {
-            refusal: f,
-            study: r,
-        };
-    }
-    if out.len() < length_of(r) {
-        return Answer {
-            refusal: NO_ROOM,
-            study: r,
-        };
-    }
+    let lent = stores::lengths_of(e, h, media, psi_e, psi_h, tables, poles, aux, ids);
+    stores::fault_with(r, lent)?;
+    require(length_of(r) <= out.len(), Refusal::NoRoom)?;
     puts::put_save(out, r, e, h, media, psi_e, psi_h, tables, poles, aux, ids);
-    Answer {
-        refusal: 0,
-        study: r,
-    }
+    Ok(())
 }
 
-// Takes up the study that the lent bytes say, or gives the standing record back with a refusal.
+// Takes up the study that the lent bytes say. A standing record is not judged, and stays where they are refused.
 pub fn rewind(
-    standing: Record,
     b: &[u8],
     e: &mut [f64],
     h: &mut [f64],
@@ -112,39 +70,14 @@ pub fn rewind(
     poles: &mut [f64],
     aux: &mut [f64],
     ids: &mut [u32],
-) -> Answer
-    ensures { outcome result.refusal result.study (stores e.new h.new media.new psi_e.new psi_h.new tables.new poles.new aux.new ids.new) ≡ rewind_call standing (stores e.old h.old media.old psi_e.old psi_h.old tables.old poles.old aux.old ids.old) b.now }
+) -> Result<Record, Refusal>
+    ensures { (standing : Record) → outcome (code result) (value_or standing result) (stores e.new h.new media.new psi_e.new psi_h.new tables.new poles.new aux.new ids.new) ≡ rewind_call standing (stores e.old h.old media.old psi_e.old psi_h.old tables.old poles.old aux.old ids.old) b.now }
 {
-    let f = judge::bytes_fault(b);
-    if f != 0 {
-        return Answer {
-            refusal: f,
-            study: standing,
-        };
-    }
+    judge::bytes_fault(b)?;
     let r = gets::get_record(b);
-    let lent = Lengths {
-        electric: e.len(),
-        magnetic: h.len(),
-        media: media.len(),
-        psi_e: psi_e.len(),
-        psi_h: psi_h.len(),
-        tables: tables.len(),
-        poles: poles.len(),
-        aux: aux.len(),
-        ids: ids.len(),
-    };
-    let k = stores::fault_with(r, lent);
-    if k != 0 {
-        return Answer {
-            refusal: k,
-            study: standing,
-        };
-    }
+    let lent = stores::lengths_of(e, h, media, psi_e, psi_h, tables, poles, aux, ids);
+    stores::fault_with(r, lent)?;
     let at = gets::stores_from(b, r.material_count);
     gets::get_stores(b, at, e, h, media, psi_e, psi_h, tables, poles, aux, ids);
-    Answer {
-        refusal: 0,
-        study: r,
-    }
+    Ok(r)
 }

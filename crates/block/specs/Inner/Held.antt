@@ -23,7 +23,7 @@ pub record MaterialHeld (m : DispersiveMaterial) : Type 0 where
   pub loss : T (held m.sigma)
   pub mu : T (held m.mu_r)
   pub four : length m.poles ≡ 4
-  pub each : (i : ℕ) → i < 4 → T (pole_held (get_or m.poles i blank_slot).pole)
+  pub each : (i : ℕ) → i < 4 → T (pole_held (get_or m.poles i blank_slot))
 
 pub record Held (r : Record) : Type 0 where
   pub walls : (length r.periodic ≡ 3) × (length r.active ≡ 3)

@@ -1,14 +1,8 @@
-use Prim.Native.Nat.{◌-◌, ◌≤◌}
-use mathlib.Core.Bool.{true}
-use mathlib.Core.Path.{◌≡◌}
-use lib.ListN.{drop}
+use Rattle.std.proofs.Common.{◌≡◌, true, drop}
 use Rattle.grid.specs.Fault.{all_below}
 use Rattle.heads.specs.Numbers.{ml_fine}
 use Rattle.heads.specs.Payloads.{entry_at}
 use Rattle.judge.proofs.entries_fine.Given as goal
 
 abbrev pub invariant-loop-i : goal.invariant-loop-i
-invariant-loop-i l = (l.i ≤ l.count) × (all_below (λ k. ml_fine (entry_at (drop l.at l.b) k)) l.i ≡ true)
-
-abbrev pub decreases-loop-i : goal.decreases-loop-i
-decreases-loop-i l = l.count - l.i
+invariant-loop-i l = all_below (λ k. ml_fine (entry_at (drop l.at l.b) k)) l.i ≡ true

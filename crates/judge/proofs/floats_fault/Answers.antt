@@ -1,34 +1,40 @@
-use native.Mathlib.Omega.{arith}
-use lib.ListN.{get_or}
+use Rattle.std.proofs.Common.{rules, ◌≡◌, ◌+◌, ◌*◌, refl, sym, ap, ◌∙◌, drop, get_or, drop_of_length-le}
+use Rattle.refusals.specs.Refusals.{code}
+use Rattle.frames.specs.declared.Frame.{Frame}
+use Rattle.format.specs.Records.{record_fault, records_fault}
 use Rattle.format.specs.Rewind.{floats_record}
-use Rattle.judge.proofs.Judged.{walk_room, floats_stay, floats_go, floats_end}
-use Rattle.std.proofs.Common.{rules}
+use Rattle.judge.specs.Inner.Places.{floats_records}
+use Rattle.judge.proofs.Judged.{walk_stays, walk_goes, walk_room, walk_ends, next_records}
 use Rattle.judge.proofs.floats_fault.Goals as goal
 
 pub take_floats-requires : goal.take_floats-requires
-take_floats-requires c =
-    let l = c.loop-i in
-    (l.invariant.1, c.requires.1.each l.i c.loop-i-test.true)
+take_floats-requires c = (c.loop-mark.invariant.within, c.requires.1 c.loop-mark.mark-index _ c.loop-mark-test.true)
 
-pub returns-in-Fault : goal.returns-in-Fault
-returns-in-Fault c =
+pub returns-in_err-at : goal.returns-in_err-at
+returns-in_err-at c =
     let a = c.args in
-    let l = c.loop-i in
-    floats_stay a.marks a.counts a.b.now a.start l.at l.i l.invariant.2 c.loop-i-test.true _ c.take_floats.ensures _ c.in-Fault.is
+    let l = c.loop-mark in
+    let r = get_or a.records.now l.mark-index (0, 0) in
+    let told : code c.from_residual.result ≡ record_fault (floats_record r.0 r.1) (drop l.at a.b.now) = search rules in
+    walk_stays (floats_record r.0 r.1) (floats_records (drop (l.mark-index + 1) a.records.now)) a.b.now l.at _ (search rules) told
+    ∙ sym (l.invariant.rest ∙ ap (λ es. records_fault es (drop l.at a.b.now)) (next_records a.records.now l.mark-index _ c.loop-mark-test.true))
 
-pub loop-i-preserved : goal.loop-i-preserved
-loop-i-preserved c =
+pub loop-mark-preserved : goal.loop-mark-preserved
+loop-mark-preserved c =
     let a = c.args in
-    let l = c.loop-i in
-    let own = c.take_floats.ensures in
-    let came = c.in-At.is in (
-      search rules,
-      walk_room (floats_record (get_or a.marks l.i 0) (get_or a.counts l.i 0)) a.b.now l.at _ own _ _ came l.invariant.1,
-      floats_go a.marks a.counts a.b.now a.start l.at l.i l.invariant.2 c.loop-i-test.true _ own _ _ came,
-    )
+    let l = c.loop-mark in
+    let r = get_or a.records.now l.mark-index (0, 0) in
+    let fine = c.in_ok-at.ensures.fault in
+    let next : c.in_ok-at.field-0.next ≡ l.at + 6 + 8 * r.1 = ap (λ (f : Frame). f.next) c.in_ok-at.ensures.frame in
+    record {
+      within = walk_room (floats_record r.0 r.1) a.b.now l.at fine next l.invariant.within;
+      rest = l.invariant.rest ∙ ap (λ es. records_fault es (drop l.at a.b.now)) (next_records a.records.now l.mark-index _ c.loop-mark-test.true)
+          ∙ sym (walk_goes (floats_record r.0 r.1) (floats_records (drop (l.mark-index + 1) a.records.now)) a.b.now l.at fine next refl);
+    }
 
 pub returns : goal.returns
 returns c =
     let a = c.args in
-    let l = c.loop-i in
-    floats_end a.marks a.counts a.b.now a.start l.at l.i l.invariant.2 _ (omega arith) l.invariant.1 c.first_fault.ensures
+    let l = c.loop-mark in
+    walk_ends a.b.now l.at l.invariant.within (search rules)
+    ∙ sym (l.invariant.rest ∙ ap (λ rs. records_fault (floats_records rs) (drop l.at a.b.now)) (drop_of_length-le a.records.now c.loop-mark-test.false))

@@ -4,8 +4,8 @@ use Rattle.puts.proofs.put_cells.Goals as goal
 
 pub returns : goal.returns
 returns c =
-    let w1 = first_ids _ _ _ _ _ _ c.put_ids-p.ensures in
-    let w2 = then_floats _ _ _ _ _ _ _ _ _ _ w1 c.put_floats-q.ensures (omega (arith, c.requires.0)) in
-    let w3 = then_floats _ _ _ _ _ _ _ _ _ _ w2 c.put_floats-s.ensures (omega (arith, c.requires.0)) in
-    let w4 = then_floats _ _ _ _ _ _ _ _ _ _ w3 c.put_floats.ensures (omega (arith, c.requires.0)) in
+    let w1 = first_ids _ _ _ _ _ _ c.put_store-p.ensures in
+    let w2 = then_floats _ _ _ _ _ _ _ _ _ _ w1 c.put_store-q.ensures (omega (arith, c.requires.0)) in
+    let w3 = then_floats _ _ _ _ _ _ _ _ _ _ w2 c.put_store-s.ensures (omega (arith, c.requires.0)) in
+    let w4 = then_floats _ _ _ _ _ _ _ _ _ _ w3 c.put_store.ensures (omega (arith, c.requires.0)) in
     (omega (arith, w4.ends), w4.is)

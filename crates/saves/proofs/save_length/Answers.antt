@@ -1,16 +1,17 @@
-use mathlib.Core.Path.{refl, sym, ◌∙◌}
-use Rattle.grid.proofs.Judging.{sound}
+use Rattle.std.proofs.Common.{rules, refl, ◌≡◌}
+use Rattle.refusals.specs.Refusals.{code}
+use Rattle.refusals.proofs.Numbers.{stands_in}
+use Rattle.grid.specs.Fault.{fault_of}
 use Rattle.grid.proofs.Settled.{turned_down, taken_up}
 use Rattle.format.specs.Save.{length_call}
 use Rattle.saves.proofs.save_length.Goals as goal
 
-pub returns-then-f-ne0 : goal.returns-then-f-ne0
+pub returns-in_err-fault_of : goal.returns-in_err-fault_of
 unfolding length_call
-returns-then-f-ne0 c = turned_down _ _ _ _ _ _ c.fault_of-f.ensures c.if-f-ne0.true
-
-pub length_of-requires : goal.length_of-requires
-length_of-requires c = sound _ (sym c.fault_of-f.ensures ∙ c.if-f-ne0.false)
+returns-in_err-fault_of c =
+    let told : code c.from_residual.result ≡ fault_of c.args.r = search rules in
+    rw (stands_in c.from_residual.result (search rules) 0) (turned_down _ _ _ (search rules) told)
 
 pub returns : goal.returns
 unfolding length_call
-returns c = taken_up _ _ _ _ _ _ _ _ c.fault_of-f.ensures c.if-f-ne0.false refl c.length_of.ensures
+returns c = taken_up _ _ c.in_ok-fault_of.ensures.fault refl c.length_of.ensures

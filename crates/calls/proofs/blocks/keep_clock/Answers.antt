@@ -1,8 +1,11 @@
-use Rattle.calls.proofs.Kept.{clock_new, clock_old}
+use Rattle.std.proofs.Common.{rules}
+use Rattle.calls.specs.Blocks.{clock_after}
+use Rattle.calls.proofs.Kept.{clock_old}
 use Rattle.calls.proofs.blocks.keep_clock.Goals as goal
 
-pub returns-then-refusal-eq0 : goal.returns-then-refusal-eq0
-returns-then-refusal-eq0 c = clock_new _ _ _ c.if-refusal-eq0.true c.put_clock.ensures
+pub returns-in_err-called-clause-block : goal.returns-in_err-called-clause-block
+returns-in_err-called-clause-block c _ = clock_old c.args.called _ _ (search rules)
 
-pub returns-else-refusal-eq0 : goal.returns-else-refusal-eq0
-returns-else-refusal-eq0 c = clock_old _ _ _ c.if-refusal-eq0.false
+pub returns-clause-block : goal.returns-clause-block
+unfolding clock_after
+returns-clause-block c _ = rw (c.in_ok-called.was) c.put_clock.ensures

@@ -1,25 +1,40 @@
-use mathlib.Core.Path.{◌≡◌, ap, ◌∙◌}
-use lib.ListN.{length}
-use Rattle.dispersion.specs.declared.Turned.{Turned}
-use Rattle.dispersion.specs.Ade.{turned}
+use Rattle.std.proofs.Common.{rules, ap, ◌≡◌, false, ◌∙◌, length}
+use Rattle.std.specs.Prelude.{eqb}
+use Rattle.refusals.specs.Refusals.{code}
+use Rattle.dispersion.specs.Ade.{ade_coeffs, pole_fault}
 use Rattle.heads.specs.Numbers.{pole_of}
-use Rattle.calls.specs.Poles.{coeffs_fault, coeffs_call}
-use Rattle.calls.proofs.Three.{written, told, room, refused, accepted}
+use Rattle.calls.specs.Blocks.{readout}
+use Rattle.calls.specs.Poles.{coeffs_fault, coeffs_call, three}
+use Rattle.calls.proofs.Three.{written, refused}
 use Rattle.calls.proofs.poles.put_coeffs.Goals as goal
 
-pub returns-then-f-ne0 : goal.returns-then-f-ne0
+pub returns-in_err-require : goal.returns-in_err-require
 unfolding coeffs_call
-returns-then-f-ne0 c =
-    let asked : Turned = let a = c.args in turned a.eps0 a.dt (pole_of a.tag a.x a.y a.z) in
-    let turned_is : c.ade_coeffs-turned.result ≡ asked = let a = c.args in c.ade_coeffs-turned.ensures ∙ ap (turned a.eps0 a.dt) c.pole_of.ensures in
-    let fault_is : c.first_fault-f.result ≡ coeffs_fault c.args.tag (length c.args.out.now) asked.refusal = let a = c.args in told a.tag (length a.out.now) c.is_tag.ensures turned_is c.first_fault-named.ensures c.first_fault-f.ensures in
-    refused asked _ _ fault_is c.if-f-ne0.true
+returns-in_err-require c =
+    let a = c.args in
+    let other : eqb (length a.out.now) 3 ≡ false = search rules in
+    let told : code c.from_residual.result ≡ coeffs_fault a.tag (length a.out.now) (pole_fault a.eps0 a.dt (pole_of a.tag a.x a.y a.z)) = rw other (search rules) in
+    refused _ _ _ (search rules) told
+
+pub returns-in_err-require-2 : goal.returns-in_err-require-2
+unfolding coeffs_call
+returns-in_err-require-2 c =
+    let a = c.args in
+    let told : code c.from_residual-in_err-require-2.result ≡ coeffs_fault a.tag (length a.out.now) (pole_fault a.eps0 a.dt (pole_of a.tag a.x a.y a.z)) = search rules in
+    refused _ _ _ (search rules) told
+
+pub returns-in_err-c : goal.returns-in_err-c
+unfolding coeffs_call
+returns-in_err-c c =
+    let a = c.args in
+    let told : code c.from_residual-in_err-c.result ≡ coeffs_fault a.tag (length a.out.now) (pole_fault a.eps0 a.dt (pole_of a.tag a.x a.y a.z)) = search rules in
+    refused _ _ _ (search rules) told
 
 pub returns : goal.returns
 unfolding coeffs_call
 returns c =
-    let asked : Turned = let a = c.args in turned a.eps0 a.dt (pole_of a.tag a.x a.y a.z) in
-    let turned_is : c.ade_coeffs-turned.result ≡ asked = let a = c.args in c.ade_coeffs-turned.ensures ∙ ap (turned a.eps0 a.dt) c.pole_of.ensures in
-    let fault_is : c.first_fault-f.result ≡ coeffs_fault c.args.tag (length c.args.out.now) asked.refusal = let a = c.args in told a.tag (length a.out.now) c.is_tag.ensures turned_is c.first_fault-named.ensures c.first_fault-f.ensures in
-    let three_long : length c.args.out.now ≡ 3 = let a = c.args in room a.tag (length a.out.now) asked.refusal fault_is c.if-f-ne0.false in
-    accepted _ _ fault_is c.if-f-ne0.false turned_is (written c.args.out.now _ _ _ three_long)
+    let a = c.args in
+    let long : length a.out.now ≡ 3 = search rules in
+    let none : 0 ≡ coeffs_fault a.tag (length a.out.now) (pole_fault a.eps0 a.dt (pole_of a.tag a.x a.y a.z)) = search rules in
+    let same : c.in_ok-c.c ≡ ade_coeffs a.eps0 a.dt (pole_of a.tag a.x a.y a.z) = search rules in
+    rw (← none) (ap (readout 0) (written a.out.now _ _ _ long ∙ ap three same))

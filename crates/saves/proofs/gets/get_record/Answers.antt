@@ -21,7 +21,7 @@ gh_of-requires c =
     let b = c.args.b.now in
     let which = c.is_old-old.ensures in
     subst (λ (g : List ℕ). get_or g 25 0 ≤ 4294967295) (sym c.head_at-g.ensures)
-    (steps_small c.is_old-old.result b (gh_there b c.requires _ which) (λ i. (c.shared_slice_known-1.given i).fits))
+    (steps_small c.is_old-old.result b (gh_there b c.requires _ which) (λ i. (c.type_inv.b i).fits))
 
 pub returns : goal.returns
 returns c =

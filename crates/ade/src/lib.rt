@@ -146,13 +146,12 @@ fn advance_cells(
     }
 }
 
+#[tactic(auto, using(dispersion::proofs::Places::pole_within))]
 fn coeffs_of(eps0: f64, dt: f64, material: DispersiveMaterial, slot: usize) -> AdeCoeffs
     requires { slot < 4 }
     ensures { result ≡ ade_coeffs eps0 dt (pole_in material slot) }
 {
-    let held = material.poles[slot];
-    let pole = held.pole;
-    pole.ade_coeffs(eps0, dt).coeffs
+    material.poles[slot].coeffs(eps0, dt)
 }
 
 // No pole counted.

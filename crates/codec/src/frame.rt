@@ -5,9 +5,8 @@ ghost use Rattle.refusals.specs.Refusals.{code};
 ghost use Rattle.codec.specs.Lists.{put};
 ghost use Rattle.codec.specs.Frame.{frame_bytes, frame_fault};
 
-use refusals::{Refusal, require};
-
 use super::numbers::{get_u16, get_u32, put_u16, put_u32};
+use refusals::{Refusal, require};
 
 // The first fault of the record at `at`, which is to have this mark and a payload of `len` bytes.
 #[tactic(auto, using(crate::proofs::Framed::frame_at))]

@@ -13,25 +13,13 @@ use tfsf::line::PAD;
 fn side_faces(g: Region) -> bool
     ensures { result ≡ side_faces g.kind }
 {
-    let kind = g.kind;
-    match kind {
-        RegionKind::Absent => false,
-        RegionKind::SlabZ => false,
-        RegionKind::InjectorZ => false,
-        RegionKind::BoxRegion => true,
-    }
+    matches!(g.kind, RegionKind::BoxRegion)
 }
 
 fn upper_face(g: Region) -> bool
     ensures { result ≡ upper_face g.kind }
 {
-    let kind = g.kind;
-    match kind {
-        RegionKind::Absent => false,
-        RegionKind::SlabZ => true,
-        RegionKind::InjectorZ => false,
-        RegionKind::BoxRegion => true,
-    }
+    matches!(g.kind, RegionKind::SlabZ | RegionKind::BoxRegion)
 }
 
 fn half_end(closed: bool, last: usize) -> usize

@@ -14,6 +14,7 @@ use tfsf::line::PAD;
 
 // The field that is corrected, H or E: `unit` is the vacuum's permeability or permittivity, n the number of cells; the incident field that it hangs on
 // starts at `incident` of the line.
+// kept: as a closure the number that a cell gets would need clauses of its own in each of the four functions below.
 #[derive(Clone, Copy)]
 pub struct Corrected {
     pub magnetic: bool,

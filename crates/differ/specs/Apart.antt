@@ -12,12 +12,16 @@ unfoldable pub apart : (n : ℕ) → (f g : ℕ → ℕ) → ℕ
 apart zero f g = 0
 apart (suc n) f g = apart n f g + unlike (f n) (g n)
 
+-- the number f of the element at a place, d's past the end
+abbrev pub numbers : {A : Type 0} → (f : A → ℕ) (d : A) → List A → ℕ → ℕ
+numbers f d l i = f (get_or l i d)
+
 -- the pattern of the float at a place: 64 bits, the same for every NaN
 abbrev pub pattern : List Float → ℕ → ℕ
-pattern l i = to_bits binary64 (get_or l i nan)
+pattern = numbers (to_bits binary64) nan
 
 abbrev pub element : List ℕ → ℕ → ℕ
-element l i = get_or l i 0
+element = numbers (λ n. n) 0
 
 -- two counts together, at the most where 64 bits do not hold their sum
 abbrev pub together : ℕ → ℕ → ℕ

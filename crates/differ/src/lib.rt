@@ -1,59 +1,65 @@
 // At how many places two lists differ, and what was seen of several together.
 #![tactic(auto)]
 
-ghost use Rattle.std.specs.Prelude.{◌≡◌, ◌&&◌, ◌≤◌, length};
-ghost use Rattle.differ.specs.Apart.{unlike, apart, pattern, element, together};
+ghost use Rattle.std.specs.Prelude.{◌≡◌, ◌≢◌, ◌&&◌, ◌≤◌, ℕ, length};
+ghost use Rattle.std.specs.Float.{nan, binary64};
+ghost use Rattle.std.specs.Float.Ieee.{to_bits};
+ghost use Rattle.differ.specs.Apart.{unlike, apart, numbers, together};
 
 use codec::floats::bits_of;
 
-// Two counts together; beyond what 64 bits hold it stays at the most.
-pub fn plus(a: u64, b: u64) -> u64
-    ensures { result ≡ together a b }
-{
-    if 0xFFFFFFFFFFFFFFFF - a < b {
-        return 0xFFFFFFFFFFFFFFFF;
+// What is compared: an element by its pattern, with all NaNs as one; and another element in its place, whose pattern is another.
+pub trait Element: Copy {
+    ghost number: { Self → ℕ };
+
+    // what is read past a list's end
+    ghost none: { Self };
+
+    fn pattern(self) -> u64
+        ensures { result ≡ number self };
+
+    fn another(self) -> Self
+        ensures { number result ≢ number self };
+}
+
+impl Element for f64 {
+    ghost number = { to_bits binary64 };
+
+    ghost none = { nan };
+
+    fn pattern(self) -> u64 {
+        bits_of(self)
     }
-    a + b
-}
 
-fn mark(a: u64, b: u64) -> usize
-    ensures { (result ≡ unlike a b) × (result ≤ 1) }
-{
-    if a == b {
-        return 0;
+    fn another(self) -> f64 {
+        if bits_of(self) == 0 { 1.0 } else { 0.0 }
     }
-    1
 }
 
-fn wide(x: u8) -> u64
-    ensures { result ≡ x }
-{
-    x as u64
+impl Element for u8 {
+    ghost number = { λ n. n };
+
+    ghost none = { 0 };
+
+    fn pattern(self) -> u64 {
+        u64::from(self)
+    }
+
+    fn another(self) -> u8 {
+        self ^ 1
+    }
 }
 
-// Floats by their patterns, with all NaNs as one.
-fn floats_apart(a: &[f64], b: &[f64]) -> usize
+// At how many places two lists of one length differ.
+fn count_apart<T: Element>(a: &[T], b: &[T]) -> usize
     requires { length a.now ≡ length b.now }
-    ensures { result ≡ apart (length a.now) (pattern a.now) (pattern b.now) }
+    ensures { result ≡ apart (length a.now) (numbers T.number T.none a.now) (numbers T.number T.none b.now) }
 {
-    let mut n = 0usize;
-    let mut i = 0usize;
-    while i < a.len() {
-        n += mark(bits_of(a[i]), bits_of(b[i]));
-        i += 1usize;
-    }
-    n
-}
-
-fn bytes_apart(a: &[u8], b: &[u8]) -> usize
-    requires { length a.now ≡ length b.now }
-    ensures { result ≡ apart (length a.now) (element a.now) (element b.now) }
-{
-    let mut n = 0usize;
-    let mut i = 0usize;
-    while i < a.len() {
-        n += mark(wide(a[i]), wide(b[i]));
-        i += 1usize;
+    let mut n = 0;
+    for i in 0..a.len() {
+        let x = a[i].pattern();
+        let y = b[i].pattern();
+        n += usize::from(x != y);
     }
     n
 }
@@ -65,61 +71,18 @@ pub struct Compared {
     pub seen: u64,
 }
 
-// 1 where the two counts differ.
-fn told_apart(a: usize, b: usize) -> u64 {
-    if a == b {
-        return 0;
-    }
-    1
-}
-
-// A float with another pattern.
-fn another(x: f64) -> f64 {
-    if bits_of(x) == 0 {
-        return 1.0;
-    }
-    0.0
-}
-
-// What is compared is shown to be compared: the last number of b is changed, and the count has to change with it.
-pub fn floats_compared(a: &[f64], b: &mut [f64]) -> Compared
+// What is compared is shown to be compared: the last element of b is changed, and the count has to change with it.
+pub fn compare<T: Element>(a: &[T], b: &mut [T]) -> Compared
     requires { length a.now ≡ length b.old }
-    ensures { result.apart ≡ apart (length a.now) (pattern a.now) (pattern b.old) }
+    ensures { result.apart ≡ apart (length a.now) (numbers T.number T.none a.now) (numbers T.number T.none b.old) }
 {
-    let count = floats_apart(a, b);
-    let n = b.len();
-    if n == 0 {
-        return Compared {
-            apart: count,
-            seen: 0,
-        };
+    let count = count_apart(a, b);
+    if let Some(last) = b.last_mut() {
+        *last = last.another();
     }
-    b[n - 1] = another(b[n - 1]);
-    let changed = floats_apart(a, b);
     Compared {
         apart: count,
-        seen: told_apart(count, changed),
-    }
-}
-
-// The same of bytes.
-pub fn bytes_compared(a: &[u8], b: &mut [u8]) -> Compared
-    requires { length a.now ≡ length b.old }
-    ensures { result.apart ≡ apart (length a.now) (element a.now) (element b.old) }
-{
-    let count = bytes_apart(a, b);
-    let n = b.len();
-    if n == 0 {
-        return Compared {
-            apart: count,
-            seen: 0,
-        };
-    }
-    b[n - 1] = b[n - 1] ^ 1;
-    let changed = bytes_apart(a, b);
-    Compared {
-        apart: count,
-        seen: told_apart(count, changed),
+        seen: u64::from(count != count_apart(a, b)),
     }
 }
 
@@ -133,14 +96,14 @@ pub struct Seen {
     pub seen: u64,
 }
 
-// Of two lists of answers together.
+// Of two lists of answers together; beyond what 64 bits hold a count stays at the most.
 pub fn joined(a: Seen, b: Seen) -> Seen
     ensures { (result.whole ≡ (a.whole && b.whole)) × (result.numbers ≡ together a.numbers b.numbers) × (result.apart ≡ together a.apart b.apart) × (result.seen ≡ together a.seen b.seen) }
 {
     Seen {
         whole: a.whole & b.whole,
-        numbers: plus(a.numbers, b.numbers),
-        apart: plus(a.apart, b.apart),
-        seen: plus(a.seen, b.seen),
+        numbers: a.numbers.saturating_add(b.numbers),
+        apart: a.apart.saturating_add(b.apart),
+        seen: a.seen.saturating_add(b.seen),
     }
 }

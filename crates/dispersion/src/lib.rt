@@ -127,10 +127,7 @@ impl DispersiveMaterial {
     pub fn drude(eps_inf: f64, omega_p: f64, gamma: f64) -> Self
         ensures { result ≡ one_pole eps_inf (Pole.Drude omega_p gamma) }
     {
-        Self::non_dispersive(eps_inf).with_pole(Pole::Drude {
-            omega_p,
-            gamma,
-        })
+        Self::non_dispersive(eps_inf).with_pole(Pole::Drude { omega_p, gamma })
     }
 
     pub fn lorentz(eps_inf: f64, delta_eps: f64, omega0: f64, gamma: f64) -> Self
@@ -146,10 +143,7 @@ impl DispersiveMaterial {
     pub fn debye(eps_inf: f64, delta_eps: f64, tau: f64) -> Self
         ensures { result ≡ one_pole eps_inf (Pole.Debye delta_eps tau) }
     {
-        Self::non_dispersive(eps_inf).with_pole(Pole::Debye {
-            delta_eps,
-            tau,
-        })
+        Self::non_dispersive(eps_inf).with_pole(Pole::Debye { delta_eps, tau })
     }
 
     // A fifth pole has no place: it is counted and not kept, so that the material is refused where it is added.

@@ -18,6 +18,7 @@ use Rattle.fdtd.proofs.Spans.{span_as}
 use Rattle.fdtd.proofs.Stands.{Stands}
 use Rattle.fdtd.proofs.Components.{at_curl, Memories, idle_mem, moved_mem}
 use Rattle.electric.specs.declared.row.Change.{Change}
+use Rattle.electric.specs.declared.row.Factors.{Factors}
 use Rattle.cells.specs.Box.{within}
 use Rattle.electric.specs.Inner.Row.{slope_of, dp_of, change_at, field_of, field_e}
 use Rattle.electric.proofs.Slopes.{within_in, within_low, within_high}
@@ -60,25 +61,25 @@ dp_own w d poles at q i p =
     ap (λ (x : Change). cond x.on (get_or poles (x.at + i) nan) zero_f) p ∙ ap (λ (x : ℕ). cond w.on (get_or poles x nan) zero_f) e
 
 module _ (A B C : Axis) (count : ℕ) (h tab mem : List Float) (q i onB onC downB down_c : ℕ) where
-  at_e : (b c : Side) (w d : Change) (n a z : ℕ) (scr poles e : List Float) → d ≡ change_at w A.at q
+  at_e : (b c : Side) (w d : Change) (n a z : ℕ) (f : Factors) (poles e : List Float) → d ≡ change_at w A.at q
       → Stands b B C h tab mem (slope_of b h n i) q i onB downB (q + i) A.mem
       → Stands c C B h tab mem (slope_of c h n i) q i onC down_c (q + i) (A.mem + count) → moves_e B C onB onC ≡ within a z i
-      → field_of b c d h tab mem scr poles e n a z (A.at + q) i
-      ≡ field_e A B C count h tab mem (q + i) onB onC downB down_c (get_or scr (1536 + i) nan) (get_or scr (2048 + i) nan) w.dt (dp_of w poles (A.at + (q + i))) e
+      → field_of b c d h tab mem f poles e n a z (A.at + q) i
+      ≡ field_e A B C count h tab mem (q + i) onB onC downB down_c (get_or f.ca i nan) (get_or f.cb i nan) w.dt (dp_of w poles (A.at + (q + i))) e
   unfolding field_of field_e
-  at_e b c w d n a z scr poles e ed sb sc g =
-      same (get_or scr (1536 + i) nan) (get_or scr (2048 + i) nan) (sym g) (ap (λ (x : Change). x.dt) ed) (dp_own w d poles A.at q i ed)
+  at_e b c w d n a z f poles e ed sb sc g =
+      same (get_or f.ca i nan) (get_or f.cb i nan) (sym g) (ap (λ (x : Change). x.dt) ed) (dp_own w d poles A.at q i ed)
       (at_curl A B C count h tab mem q i onB onC downB (q + i) down_c (q + i) b c _ _ sb sc) (ap (λ (x : ℕ). get_or e x nan) (add_assoc A.at q i))
 
   stop_e : moves_e B C onB onC ≡ false → (a b dt dp : Float) (e : List Float) → zero_f ≡ field_e A B C count h tab mem (q + i) onB onC downB down_c a b dt dp e
   unfolding field_e updated_e
   stop_e g a b dt dp e = pick_stop _ _ _ g
 
-module _ (A B C : Axis) (count : ℕ) (h tab mem scr poles e : List Float) (w : Change) (q n : ℕ) (onB onC downB down_c : ℕ → ℕ) where
+module _ (A B C : Axis) (count : ℕ) (h tab mem : List Float) (f : Factors) (poles e : List Float) (w : Change) (q n : ℕ) (onB onC downB down_c : ℕ → ℕ) where
   abbrev pub Moved : List Float → List Float → Type 0
   Moved e' mem' =
       Span (λ i. field_e A B C count h tab mem (q + i) (onB i) (onC i) (downB i) (down_c i)
-      (get_or scr (1536 + i) nan) (get_or scr (2048 + i) nan) w.dt (dp_of w poles (A.at + (q + i))) e) e (A.at + q) 0 n e'
+      (get_or f.ca i nan) (get_or f.cb i nan) w.dt (dp_of w poles (A.at + (q + i))) e) e (A.at + q) 0 n e'
       × Memories A B C count h tab mem q n onB onC downB (λ i. q + i) down_c (λ i. q + i) (λ i. moves_e B C (onB i) (onC i)) mem'
 
   -- nothing moves
@@ -93,11 +94,11 @@ module _ (A B C : Axis) (count : ℕ) (h tab mem scr poles e : List Float) (w : 
       (sb : (i : ℕ) → Stands b B C h tab mem (slope_of b h n i) q i (onB i) (downB i) (q + i) A.mem)
       (sc : (i : ℕ) → Stands c C B h tab mem (slope_of c h n i) q i (onC i) (down_c i) (q + i) (A.mem + count))
       (go : (i : ℕ) → i < n → moves_e B C (onB i) (onC i) ≡ within a z i)
-      (ee : Span (field_of b c d h tab mem scr poles e n a z (A.at + q)) e (A.at + q) 0 n e')
+      (ee : Span (field_of b c d h tab mem f poles e n a z (A.at + q)) e (A.at + q) 0 n e')
       (mm : Two (λ i. side_memory b tab mem i (slope_of b h n i)) (λ i. side_memory c tab mem i (slope_of c h n i)) mem b.mem c.mem a z mem') where
     pub moved : Moved e' mem'
     moved = (
-      span_as _ _ _ _ ee (λ i u l. at_e A B C count h tab mem q i _ _ _ _ b c w d n a z scr poles e ed (sb i) (sc i) (go i l)),
+      span_as _ _ _ _ ee (λ i u l. at_e A B C count h tab mem q i _ _ _ _ b c w d n a z f poles e ed (sb i) (sc i) (go i l)),
       moved_mem A B C count h tab mem q n onB onC downB (λ i. q + i) down_c (λ i. q + i) (λ i. moves_e B C (onB i) (onC i)) b c (slope_of b h n) (slope_of c h n) a z mem' most room
           sb sc (λ i k l. go i (omega arith) ∙ within_in a z i k l)
           (λ i l o. go i l ∙ ⊎_elim (λ u. within_low a z i u) (λ u. within_high a z i (omega arith) u) o) mm start,

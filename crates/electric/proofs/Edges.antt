@@ -13,6 +13,7 @@ use Rattle.fdtd.specs.Yee.{updated_e}
 use Rattle.fdtd.specs.Inner.Span.{Span}
 use Rattle.fdtd.proofs.Spans.{span_as, span_join}
 use Rattle.electric.specs.declared.row.Change.{Change}
+use Rattle.electric.specs.declared.row.Factors.{Factors}
 use Rattle.cells.specs.Box.{within}
 use Rattle.electric.specs.Inner.Row.{dp_of, number_of}
 use Rattle.electric.proofs.Slopes.{within_in, within_low, within_high}
@@ -50,36 +51,36 @@ pub pick_stop : (go : Bool) (x y : Float) → go ≡ false → y ≡ cond go x y
 pick_stop go x y e = rw e
 
 -- a cell's new number by the two ways in which dp is taken
-module _ (w : Change) (scr poles e : List Float) (q i : ℕ) where
+module _ (w : Change) (f : Factors) (curl poles e : List Float) (q i : ℕ) where
   pub by_poles : w.on ≡ true
-      → (get_or scr (1536 + i) nan ⊗ get_or e (q + i) nan ⊕ get_or scr (1024 + i) nan ⊖ get_or poles (w.at + i) nan ⊘ w.dt) ⊘ get_or scr (2048 + i) nan
-      ≡ number_of true w scr poles e q i
+      → (get_or f.ca i nan ⊗ get_or e (q + i) nan ⊕ get_or curl i nan ⊖ get_or poles (w.at + i) nan ⊘ w.dt) ⊘ get_or f.cb i nan
+      ≡ number_of true w f curl poles e q i
   unfolding number_of updated_e dp_of
   by_poles p =
-      ap (λ (x : Float). (get_or scr (1536 + i) nan ⊗ get_or e (q + i) nan ⊕ get_or scr (1024 + i) nan ⊖ x ⊘ w.dt) ⊘ get_or scr (2048 + i) nan)
+      ap (λ (x : Float). (get_or f.ca i nan ⊗ get_or e (q + i) nan ⊕ get_or curl i nan ⊖ x ⊘ w.dt) ⊘ get_or f.cb i nan)
       (pick_go w.on (get_or poles (w.at + i) nan) zero_f p)
 
   pub by_none : w.on ≡ false
-      → (get_or scr (1536 + i) nan ⊗ get_or e (q + i) nan ⊕ get_or scr (1024 + i) nan ⊖ zero_f ⊘ w.dt) ⊘ get_or scr (2048 + i) nan ≡ number_of true w scr poles e q i
+      → (get_or f.ca i nan ⊗ get_or e (q + i) nan ⊕ get_or curl i nan ⊖ zero_f ⊘ w.dt) ⊘ get_or f.cb i nan ≡ number_of true w f curl poles e q i
   unfolding number_of updated_e dp_of
   by_none p =
-      ap (λ (x : Float). (get_or scr (1536 + i) nan ⊗ get_or e (q + i) nan ⊕ get_or scr (1024 + i) nan ⊖ x ⊘ w.dt) ⊘ get_or scr (2048 + i) nan)
+      ap (λ (x : Float). (get_or f.ca i nan ⊗ get_or e (q + i) nan ⊕ get_or curl i nan ⊖ x ⊘ w.dt) ⊘ get_or f.cb i nan)
       (pick_stop w.on (get_or poles (w.at + i) nan) zero_f p)
 
-  stop : (go : Bool) → go ≡ false → zero_f ≡ number_of go w scr poles e q i
+  stop : (go : Bool) → go ≡ false → zero_f ≡ number_of go w f curl poles e q i
   unfolding number_of updated_e
   stop go p = rw p
 
-  go_on : (go : Bool) (e1 : List Float) → go ≡ true → get_or e1 (q + i) nan ≡ get_or e (q + i) nan → number_of true w scr poles e1 q i ≡ number_of go w scr poles e q i
+  go_on : (go : Bool) (e1 : List Float) → go ≡ true → get_or e1 (q + i) nan ≡ get_or e (q + i) nan → number_of true w f curl poles e1 q i ≡ number_of go w f curl poles e q i
   unfolding number_of
   go_on go e1 p r = rw (p, r)
 
 -- the walls' cells and those between
-pub edged : (w : Change) (scr poles e e1 e2 e3 : List Float) (q n a z : ℕ) → a ≤ z → z ≤ n → Span (λ i. zero_f) e q 0 a e1
-    → Span (λ i. number_of true w scr poles e1 q i) e1 q a z e2 → Span (λ i. zero_f) e2 q z n e3
-    → Span (λ i. number_of (within a z i) w scr poles e q i) e q 0 n e3
-edged w scr poles e e1 e2 e3 q n a z k m one two three =
+pub edged : (w : Change) (f : Factors) (curl poles e e1 e2 e3 : List Float) (q n a z : ℕ) → a ≤ z → z ≤ n → Span (λ i. zero_f) e q 0 a e1
+    → Span (λ i. number_of true w f curl poles e1 q i) e1 q a z e2 → Span (λ i. zero_f) e2 q z n e3
+    → Span (λ i. number_of (within a z i) w f curl poles e q i) e q 0 n e3
+edged w f curl poles e e1 e2 e3 q n a z k m one two three =
     span_join _ _ _ _
-    (span_join _ _ _ _ (span_as _ _ _ _ one (λ i g h. stop w scr poles e q i (within a z i) (within_low a z i h))) two (omega arith) k
-    (λ i g h. go_on w scr poles e q i (within a z i) e1 (within_in a z i g h) (one.over (q + i) (omega arith))))
-    three (omega arith) m (λ i g h. stop w scr poles e q i (within a z i) (within_high a z i (omega arith) g))
+    (span_join _ _ _ _ (span_as _ _ _ _ one (λ i g h. stop w f curl poles e q i (within a z i) (within_low a z i h))) two (omega arith) k
+    (λ i g h. go_on w f curl poles e q i (within a z i) e1 (within_in a z i g h) (one.over (q + i) (omega arith))))
+    three (omega arith) m (λ i g h. stop w f curl poles e q i (within a z i) (within_high a z i (omega arith) g))

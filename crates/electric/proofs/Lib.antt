@@ -1,6 +1,5 @@
 -- Laws that the functions' proofs cite.
 pub mod Slopes
-pub mod Twos
 pub mod Edges
 pub mod Whole
 pub mod Component

@@ -10,66 +10,43 @@ use borrow.Author.Tests.{lt-ltb, le-ltb, ltb-true, le-leb, lt-leb, leb-true, eqb
 use lib.Dec.{leb, ltb, eqb}
 use lib.ListN.{get_or}
 use lib.Ieee.{Float, nan}
-use Rattle.root.specs.Rounded.{◌⊖◌}
 use Rattle.fdtd.specs.declared.Axis.{Axis}
+use Rattle.fdtd.specs.declared.rows.Differences.{Differences}
+use Rattle.fdtd.specs.declared.rows.Scratch.{Scratch}
 use Rattle.fdtd.specs.declared.rows.Side.{Side}
 use Rattle.fdtd.specs.declared.turns.Run.{Run}
 use Rattle.fdtd.specs.Axes.{previous_of}
 use Rattle.fdtd.specs.Yee.{slope, derivative}
-use Rattle.fdtd.specs.Inner.Span.{Put, Trio}
+use Rattle.fdtd.specs.Inner.Span.{Trio}
 use Rattle.fdtd.specs.Inner.Turns.{side_across, side_along, Lull}
 use Rattle.cells.specs.Box.{within}
-use Rattle.electric.specs.Inner.Row.{before_at, slope_of, OffWallRun}
+use Rattle.electric.specs.Inner.Row.{behind_of, before_at, slope_of, OffWallRun}
 
 before_inner : (b : Bool) (own other i n : ℕ) → 1 ≤ i → cond b own (other + 1) + (i - 1) ≡ cond b (own + previous_of i n) (other + i)
 before_inner true own other i n h = rw (ne_eqb i 0 (λ e. omega arith))
 before_inner false own other i n h = omega arith
 
-before_first : (b : Bool) (own other n : ℕ) → cond b (own + (n - 1)) (other + 0) + 0 ≡ cond b (own + previous_of 0 n) (other + 0)
+before_first : (b : Bool) (own other n : ℕ) → cond b (own + (n - 1)) (other + 0) ≡ cond b (own + previous_of 0 n) (other + 0)
 before_first true own other n = omega arith
 before_first false own other n = omega arith
 
 module _ (s : Side) (h : List Float) (n : ℕ) where
-  pub slope_inner : (i : ℕ) {b : ℕ} → b ≡ cond s.along s.own (s.other + 1) → 1 ≤ i
-      → slope s.d (get_or h (b + (i - 1)) nan) (get_or h (s.own + 1 + (i - 1)) nan) ≡ slope_of s h n i
+  pub slope_inner : (i : ℕ) {t : Differences} → t ≡ behind_of s → 1 ≤ i → slope t.d (get_or h (t.lo + (i - 1)) nan) (get_or h (t.hi + (i - 1)) nan) ≡ slope_of s h n i
   unfolding slope_of before_at
-  slope_inner i {b} p l =
+  slope_inner i p l =
       let u : s.own + 1 + (i - 1) ≡ s.own + i = omega arith in
-      ap (λ (x : ℕ). slope s.d (get_or h x nan) (get_or h (s.own + 1 + (i - 1)) nan)) (ap (λ (x : ℕ). x + (i - 1)) p ∙ before_inner s.along s.own s.other i n l)
-      ∙ ap (λ (x : ℕ). slope s.d (get_or h (cond s.along (s.own + previous_of i n) (s.other + i)) nan) (get_or h x nan)) u
+      rw p (ap (λ (x : ℕ). slope s.d (get_or h x nan) (get_or h (s.own + 1 + (i - 1)) nan)) (before_inner s.along s.own s.other i n l)
+      ∙ ap (λ (x : ℕ). slope s.d (get_or h (cond s.along (s.own + previous_of i n) (s.other + i)) nan) (get_or h x nan)) u)
 
-  pub slope_first : {b : ℕ} → b ≡ cond s.along (s.own + (n - 1)) (s.other + 0) → slope s.d (get_or h (b + 0) nan) (get_or h (s.own + 0) nan) ≡ slope_of s h n 0
+  pub slope_first : {b : ℕ} → b ≡ cond s.along (s.own + (n - 1)) (s.other + 0) → slope s.d (get_or h b nan) (get_or h s.own nan) ≡ slope_of s h n 0
   unfolding slope_of before_at
   slope_first {b} p =
-      ap (λ (x : ℕ). slope s.d (get_or h x nan) (get_or h (s.own + 0) nan)) (ap (λ (x : ℕ). x + 0) p ∙ before_first s.along s.own s.other n)
-
--- they are there
-pub begin_le : (b : Bool) (own other z n l : ℕ) {r : ℕ} → r ≡ cond b own (other + 1) → 1 ≤ z → z ≤ n → own + n ≤ l → other + n ≤ l → r + (z - 1) ≤ l
-begin_le true own other z n l e g h p q = omega arith
-begin_le false own other z n l e g h p q = omega arith
-
-pub first_le : (b : Bool) (own other n l : ℕ) {r : ℕ} → r ≡ cond b (own + (n - 1)) (other + 0) → 1 ≤ n → own + n ≤ l → other + n ≤ l → r + 0 < l
-first_le true own other n l e h p q = omega arith
-first_le false own other n l e h p q = omega arith
-
--- a cell is put before those from a + 1 up to z
-pub trio_front : (f g : ℕ → Float) (old : List Float) (a : ℕ) {new next : List Float} {z : ℕ} {x y : Float} → Trio f g old (a + 1) z new → Put x y a new next → z ≤ 512
-    → x ≡ f a → y ≡ g a → Trio f g old a z next
-trio_front f g old a {new} {next} {z} {x} {y} w p few ex ey =
-    record {
-      len = p.len ∙ w.len;
-      one = λ k h l.
-          ⊎_elim (λ e. subst (λ (j : ℕ). get_or next j nan ≡ f j) e (p.one ∙ ex)) (λ u. p.one_after k u (omega arith) ∙ w.one k (omega arith) l) (eq-or-lt_of_le h);
-      two = λ k h l.
-          ⊎_elim (λ e. subst (λ (j : ℕ). get_or next (512 + j) nan ≡ g j) e (p.two ∙ ey)) (λ u. p.two_after k u (omega arith) ∙ w.two k (omega arith) l) (eq-or-lt_of_le h);
-      three = λ k h l.
-          ⊎_elim (λ e. subst (λ (j : ℕ). get_or next (1024 + j) nan ≡ f j ⊖ g j) e (p.three ∙ rw (ex, ey)))
-          (λ u. p.three_after k u (omega arith) ∙ w.three k (omega arith) l) (eq-or-lt_of_le h);
-      over = λ q h. p.over q h ∙ w.over q h;
-    }
+      let u : s.own ≡ s.own + 0 = omega arith in
+      ap (λ (x : ℕ). slope s.d (get_or h x nan) (get_or h s.own nan)) (p ∙ before_first s.along s.own s.other n)
+      ∙ ap (λ (x : ℕ). slope s.d (get_or h (cond s.along (s.own + previous_of 0 n) (s.other + 0)) nan) (get_or h x nan)) u
 
 -- the same cells by another name of their first
-pub trio_from : {f g : ℕ → Float} {old new : List Float} {a a' z : ℕ} → Trio f g old a z new → a ≡ a' → Trio f g old a' z new
+pub trio_from : {f g : ℕ → Float} {old new : Scratch} {a a' z : ℕ} → Trio f g old a z new → a ≡ a' → Trio f g old a' z new
 trio_from {f} {g} {old} {new} {a} {a'} {z} w e = subst (λ (k : ℕ). Trio f g old k z new) e w
 
 -- the derivatives of the two kinds of side, by the cells' places

@@ -11,15 +11,16 @@ ghost use Rattle.grid.specs.Stores.{cells};
 ghost use Rattle.ade.specs.Polarization.{delta_p};
 ghost use Rattle.fdtd.specs.Axes.{previous_of, walled};
 ghost use Rattle.fdtd.specs.Halves.{half_e, psi_after, electric_after};
-ghost use Rattle.fdtd.specs.Inner.Span.{Span, Two, Top};
-ghost use Rattle.fdtd.specs.Inner.Turns.{Fit, Laid};
+ghost use Rattle.fdtd.specs.Inner.Span.{Span, Two};
+ghost use Rattle.fdtd.specs.Inner.Turns.{Fit};
 ghost use Rattle.electric.specs.Inner.Row.{change_at, dp_of, field_e, first_e, second_e, OffWallRun, DpRoom};
 ghost use Rattle.electric.specs.Inner.Swept.{Swept, Carried};
 
+use fdtd::rows::Scratch;
 use fdtd::turns::{Run, Spot, Turn};
 use fdtd::{Axis, single, turns};
 use grid::{Record, stores};
-use row::Change;
+use row::{Change, Factors};
 
 // Whether the place p lies on a wall of w: one that wraps has none.
 fn walled_at(w: Axis, p: usize) -> bool
@@ -48,11 +49,14 @@ fn change_at(w: Change, at: usize, q: usize) -> Change
     }
 }
 
+// kept: three components, since they differ in which of their sides lie along the row.
+
 // The component along r: both of its sides lie across the row.
 fn comp_r(
     e: &mut [f64],
     mem: &mut [f64],
-    scr: &mut [f64],
+    scr: &mut Scratch,
+    f: &Factors,
     h: &[f64],
     tab: &[f64],
     poles: &[f64],
@@ -61,11 +65,10 @@ fn comp_r(
     p: Spot,
 )
     requires fit { Fit g h.now tab.now mem.old e.old }
-    requires s_lt_n { (p.s < g.s.n) × (p.t < g.t.n) × (length scr.old ≡ 2560) × (w.at + g.r.at + g.count ≤ length poles.now) }
+    requires s_lt_n { (p.s < g.s.n) × (p.t < g.t.n) × (w.at + g.r.at + g.count ≤ length poles.now) }
     requires n_bound { (p.q + g.r.n ≤ g.count) × (p.bs + g.r.n ≤ g.count) × (p.bt + g.r.n ≤ g.count) }
-    ensures span { Span (λ i. field_e g.r g.s g.t g.count h.now tab.now mem.old (p.q + i) p.s p.t (p.bs + i) (p.bt + i) (get_or scr.old (1536 + i) nan) (get_or scr.old (2048 + i) nan) w.dt (dp_of w poles.now (g.r.at + (p.q + i))) e.old) e.old (g.r.at + p.q) 0 g.r.n e.new }
+    ensures span { Span (λ i. field_e g.r g.s g.t g.count h.now tab.now mem.old (p.q + i) p.s p.t (p.bs + i) (p.bt + i) (get_or f.now.ca i nan) (get_or f.now.cb i nan) w.dt (dp_of w poles.now (g.r.at + (p.q + i))) e.old) e.old (g.r.at + p.q) 0 g.r.n e.new }
     ensures two { Two (λ i. first_e g.r g.s g.t g.count h.now tab.now mem.old (p.q + i) p.s p.t (p.bs + i) (p.bt + i)) (λ i. second_e g.r g.s g.t g.count h.now tab.now mem.old (p.q + i) p.s p.t (p.bs + i) (p.bt + i)) mem.old (g.r.mem + p.q) (g.r.mem + g.count + p.q) 0 g.r.n mem.new }
-    ensures top { Top scr.old 1536 scr.new }
 {
     let n = g.r.n;
     if walled_at(g.s, p.s) | walled_at(g.t, p.t) {
@@ -76,7 +79,22 @@ fn comp_r(
         let b = turns::across(tab, g.s, p.s, 0, n, g.t.at + p.q, g.t.at + p.bs, m);
         let c = turns::across(tab, g.t, p.t, 0, n, g.s.at + p.q, g.s.at + p.bt, k);
         let d = change_at(w, g.r.at, p.q);
-        row::row(e, mem, scr, h, tab, poles, g.r.at + p.q, n, 0, n, b, c, d);
+        row::row(
+            e,
+            mem,
+            scr,
+            f,
+            h,
+            tab,
+            poles,
+            g.r.at + p.q,
+            n,
+            0,
+            n,
+            b,
+            c,
+            d,
+        );
     }
 }
 
@@ -84,7 +102,8 @@ fn comp_r(
 fn comp_s(
     e: &mut [f64],
     mem: &mut [f64],
-    scr: &mut [f64],
+    scr: &mut Scratch,
+    f: &Factors,
     h: &[f64],
     tab: &[f64],
     poles: &[f64],
@@ -94,12 +113,11 @@ fn comp_s(
     p: Spot,
 )
     requires fit { Fit g h.now tab.now mem.old e.old }
-    requires s_lt_n { (p.s < g.s.n) × (p.t < g.t.n) × (length scr.old ≡ 2560) × (w.at + g.s.at + g.count ≤ length poles.now) }
+    requires s_lt_n { (p.s < g.s.n) × (p.t < g.t.n) × (w.at + g.s.at + g.count ≤ length poles.now) }
     requires n_bound { (p.q + g.r.n ≤ g.count) × (p.bs + g.r.n ≤ g.count) × (p.bt + g.r.n ≤ g.count) }
     requires off_wall_run { OffWallRun g.r tab.now run }
-    ensures span { Span (λ i. field_e g.s g.t g.r g.count h.now tab.now mem.old (p.q + i) p.t i (p.bt + i) (p.q + previous_of i g.r.n) (get_or scr.old (1536 + i) nan) (get_or scr.old (2048 + i) nan) w.dt (dp_of w poles.now (g.s.at + (p.q + i))) e.old) e.old (g.s.at + p.q) 0 g.r.n e.new }
+    ensures span { Span (λ i. field_e g.s g.t g.r g.count h.now tab.now mem.old (p.q + i) p.t i (p.bt + i) (p.q + previous_of i g.r.n) (get_or f.now.ca i nan) (get_or f.now.cb i nan) w.dt (dp_of w poles.now (g.s.at + (p.q + i))) e.old) e.old (g.s.at + p.q) 0 g.r.n e.new }
     ensures two { Two (λ i. first_e g.s g.t g.r g.count h.now tab.now mem.old (p.q + i) p.t i (p.bt + i) (p.q + previous_of i g.r.n)) (λ i. second_e g.s g.t g.r g.count h.now tab.now mem.old (p.q + i) p.t i (p.bt + i) (p.q + previous_of i g.r.n)) mem.old (g.s.mem + p.q) (g.s.mem + g.count + p.q) 0 g.r.n mem.new }
-    ensures top { Top scr.old 1536 scr.new }
 {
     let n = g.r.n;
     let a = run.start;
@@ -112,7 +130,22 @@ fn comp_s(
         let b = turns::across(tab, g.t, p.t, a, z, g.r.at + p.q, g.r.at + p.bt, m);
         let c = turns::along(g.r, run, g.t.at + p.q, k);
         let d = change_at(w, g.s.at, p.q);
-        row::row(e, mem, scr, h, tab, poles, g.s.at + p.q, n, a, z, b, c, d);
+        row::row(
+            e,
+            mem,
+            scr,
+            f,
+            h,
+            tab,
+            poles,
+            g.s.at + p.q,
+            n,
+            a,
+            z,
+            b,
+            c,
+            d,
+        );
     }
 }
 
@@ -120,7 +153,8 @@ fn comp_s(
 fn comp_t(
     e: &mut [f64],
     mem: &mut [f64],
-    scr: &mut [f64],
+    scr: &mut Scratch,
+    f: &Factors,
     h: &[f64],
     tab: &[f64],
     poles: &[f64],
@@ -130,12 +164,11 @@ fn comp_t(
     p: Spot,
 )
     requires fit { Fit g h.now tab.now mem.old e.old }
-    requires s_lt_n { (p.s < g.s.n) × (p.t < g.t.n) × (length scr.old ≡ 2560) × (w.at + g.t.at + g.count ≤ length poles.now) }
+    requires s_lt_n { (p.s < g.s.n) × (p.t < g.t.n) × (w.at + g.t.at + g.count ≤ length poles.now) }
     requires n_bound { (p.q + g.r.n ≤ g.count) × (p.bs + g.r.n ≤ g.count) × (p.bt + g.r.n ≤ g.count) }
     requires off_wall_run { OffWallRun g.r tab.now run }
-    ensures span { Span (λ i. field_e g.t g.r g.s g.count h.now tab.now mem.old (p.q + i) i p.s (p.q + previous_of i g.r.n) (p.bs + i) (get_or scr.old (1536 + i) nan) (get_or scr.old (2048 + i) nan) w.dt (dp_of w poles.now (g.t.at + (p.q + i))) e.old) e.old (g.t.at + p.q) 0 g.r.n e.new }
+    ensures span { Span (λ i. field_e g.t g.r g.s g.count h.now tab.now mem.old (p.q + i) i p.s (p.q + previous_of i g.r.n) (p.bs + i) (get_or f.now.ca i nan) (get_or f.now.cb i nan) w.dt (dp_of w poles.now (g.t.at + (p.q + i))) e.old) e.old (g.t.at + p.q) 0 g.r.n e.new }
     ensures two { Two (λ i. first_e g.t g.r g.s g.count h.now tab.now mem.old (p.q + i) i p.s (p.q + previous_of i g.r.n) (p.bs + i)) (λ i. second_e g.t g.r g.s g.count h.now tab.now mem.old (p.q + i) i p.s (p.q + previous_of i g.r.n) (p.bs + i)) mem.old (g.t.mem + p.q) (g.t.mem + g.count + p.q) 0 g.r.n mem.new }
-    ensures top { Top scr.old 1536 scr.new }
 {
     let n = g.r.n;
     let a = run.start;
@@ -148,7 +181,22 @@ fn comp_t(
         let b = turns::along(g.r, run, g.s.at + p.q, m);
         let c = turns::across(tab, g.s, p.s, a, z, g.r.at + p.q, g.r.at + p.bs, k);
         let d = change_at(w, g.t.at, p.q);
-        row::row(e, mem, scr, h, tab, poles, g.t.at + p.q, n, a, z, b, c, d);
+        row::row(
+            e,
+            mem,
+            scr,
+            f,
+            h,
+            tab,
+            poles,
+            g.t.at + p.q,
+            n,
+            a,
+            z,
+            b,
+            c,
+            d,
+        );
     }
 }
 
@@ -156,7 +204,8 @@ fn comp_t(
 fn line(
     e: &mut [f64],
     mem: &mut [f64],
-    scr: &mut [f64],
+    scr: &mut Scratch,
+    f: &mut Factors,
     h: &[f64],
     media: &[f64],
     tab: &[f64],
@@ -169,26 +218,26 @@ fn line(
     t: usize,
 )
     requires fit { Fit g h.now tab.now mem.old e.old }
-    requires laid { Laid g }
     requires off_wall_run { OffWallRun g.r tab.now run }
     requires dp_room { DpRoom g w poles.now }
-    requires s_lt_n { (s < g.s.n) × (t < g.t.n) × (length scr.old ≡ 2560) × (g.count + g.count + g.count ≤ length media.now) }
+    requires s_lt_n { (s < g.s.n) × (t < g.t.n) × (g.count + g.count + g.count ≤ length media.now) }
     ensures { Carried eps0 w g h.now media.now tab.now poles.now s t e.old mem.old e.new mem.new }
 {
     let bs = previous_of(s, g.s.n);
     let bt = previous_of(t, g.t.n);
     let p = turns::find_spot(g, s, t, bs, bt);
-    row::factors(scr, media, p.q, 2 * g.count + p.q, g.r.n, eps0, g.dt);
-    comp_r(e, mem, scr, h, tab, poles, w, g, p);
-    comp_s(e, mem, scr, h, tab, poles, w, g, run, p);
-    comp_t(e, mem, scr, h, tab, poles, w, g, run, p);
+    row::weigh(f, media, p.q, 2 * g.count + p.q, g.r.n, eps0, g.dt);
+    comp_r(e, mem, scr, f, h, tab, poles, w, g, p);
+    comp_s(e, mem, scr, f, h, tab, poles, w, g, run, p);
+    comp_t(e, mem, scr, f, h, tab, poles, w, g, run, p);
 }
 
 // All rows.
 fn sweep(
     e: &mut [f64],
     mem: &mut [f64],
-    scr: &mut [f64],
+    scr: &mut Scratch,
+    f: &mut Factors,
     h: &[f64],
     media: &[f64],
     tab: &[f64],
@@ -199,15 +248,14 @@ fn sweep(
     run: Run,
 )
     requires fit { Fit g h.now tab.now mem.old e.old }
-    requires laid { Laid g }
     requires off_wall_run { OffWallRun g.r tab.now run }
     requires dp_room { DpRoom g w poles.now }
-    requires scr_len { (length scr.old ≡ 2560) × (g.count + g.count + g.count ≤ length media.now) }
+    requires count_in_bounds { g.count + g.count + g.count ≤ length media.now }
     ensures { Swept eps0 w g h.now media.now tab.now poles.now e.old mem.old (g.t.n * g.s.n) e.new mem.new }
 {
     for t in 0..g.t.n {
         for s in 0..g.s.n {
-            line(e, mem, scr, h, media, tab, poles, eps0, w, g, run, s, t);
+            line(e, mem, scr, f, h, media, tab, poles, eps0, w, g, run, s, t);
         }
     }
 }
@@ -245,7 +293,6 @@ fn step_along(
     g: Turn,
 )
     requires fit { Fit g h.now tab.now mem.old e.old }
-    requires laid { Laid g }
     requires dp_room { DpRoom g w poles.now }
     requires count_in_bounds { g.count + g.count + g.count ≤ length media.now }
     ensures { Swept eps0 w g h.now media.now tab.now poles.now e.old mem.old (g.t.n * g.s.n) e.new mem.new }
@@ -253,11 +300,21 @@ fn step_along(
     if g.r.n < single::SHORT {
         short::sweep_cells(e, mem, h, media, tab, poles, eps0, w, g);
     } else {
-        let mut scr = [0.0; 2560];
+        let mut scr = Scratch {
+            first: [0.0; 512],
+            second: [0.0; 512],
+            curl: [0.0; 512],
+        };
+        let mut f = Factors {
+            ca: [0.0; 512],
+            cb: [0.0; 512],
+        };
         let start = start_of(g.r.wraps);
         let end = end_of(g.r.n, g.r.wraps);
         let run = turns::find_lull(tab, g.r, start, end);
-        sweep(e, mem, &mut scr, h, media, tab, poles, eps0, w, g, run);
+        sweep(
+            e, mem, &mut scr, &mut f, h, media, tab, poles, eps0, w, g, run,
+        );
     }
 }
 

@@ -3,7 +3,7 @@ ghost use Rattle.std.specs.Prelude.{◌≡◌, not, ◌+◌, ◌*◌, ◌≤◌,
 ghost use Rattle.root.specs.Rounded.{◌⊘◌, zero_f};
 ghost use Rattle.fdtd.specs.Axes.{previous_of, walled};
 ghost use Rattle.fdtd.specs.Inner.Begun.{Known, StoredBy, Near};
-ghost use Rattle.fdtd.specs.Inner.Turns.{Fit, Laid};
+ghost use Rattle.fdtd.specs.Inner.Turns.{Fit};
 ghost use Rattle.electric.specs.Inner.Row.{dp_of, DpRoom};
 ghost use Rattle.electric.specs.Inner.Celled.{rule_e, Moving};
 ghost use Rattle.electric.specs.Inner.Swept.{Swept, Carried};
@@ -11,7 +11,7 @@ ghost use Rattle.electric.specs.Inner.Swept.{Swept, Carried};
 use crate::row::Change;
 use fdtd::single::Shared;
 use fdtd::turns::Turn;
-use fdtd::{Axis, Coef, rows, single, turns};
+use fdtd::{Axis, Coef, single, turns};
 use update::Weights;
 
 // dp/dt of the number at i. Without dispersion it is none, 0.0/dt, divided once for all cells.
@@ -19,11 +19,7 @@ fn term_of(poles: &[f64], w: Change, none: f64, i: usize) -> f64
     requires { (none ≡ zero_f ⊘ w.dt) × (w.at + i < length poles.now) }
     ensures { result ≡ dp_of w poles.now i ⊘ w.dt }
 {
-    if w.on {
-        rows::at(poles, w.at, i) / w.dt
-    } else {
-        none
-    }
+    if w.on { poles[w.at + i] / w.dt } else { none }
 }
 
 // The component along r of a cell, with the cells ds and dt before it; +0.0 where it lies on a wall.
@@ -81,7 +77,6 @@ fn cell(
     i: usize,
 )
     requires fit { Fit g h.now tab.now mem.old e.old }
-    requires laid { Laid g }
     requires dp_room { DpRoom g w poles.now }
     requires known { Known g tab.now s t (previous_of s g.s.n) (previous_of t g.t.n) (not (walled g.s s)) (not (walled g.t t)) v }
     requires i_lt_n { (i < g.r.n) × (g.count + g.count + g.count ≤ length media.now) × (none ≡ zero_f ⊘ w.dt) }
@@ -92,11 +87,11 @@ fn cell(
     let dt = v.bt + i;
     let dr = v.q + crate::previous_of(i, g.r.n);
     let gor = free_at(g.r, i);
-    let kr = single::coef_of(tab, g.r, i);
-    let f = update::weights_of(eps0, g.dt, media[c], rows::at(media, 2 * g.count, c));
-    let go_r = single::both(v.gos, v.got);
-    let go_s = single::both(v.got, gor);
-    let go_t = single::both(gor, v.gos);
+    let kr = turns::coef_of(tab, g.r, i);
+    let f = update::weights_of(eps0, g.dt, media[c], media[2 * g.count + c]);
+    let go_r = v.gos & v.got;
+    let go_s = v.got & gor;
+    let go_t = gor & v.gos;
     let gs = turns::turned(g);
     let gt = turns::turned(gs);
     component(e, mem, h, poles, w, none, g, c, ds, dt, go_r, f, v.ks, v.kt);
@@ -120,7 +115,6 @@ fn cells_of_row(
     t: usize,
 )
     requires fit { Fit g h.now tab.now mem.old e.old }
-    requires laid { Laid g }
     requires dp_room { DpRoom g w poles.now }
     requires s_lt_n { (s < g.s.n) × (t < g.t.n) × (g.count + g.count + g.count ≤ length media.now) × (none ≡ zero_f ⊘ w.dt) }
     ensures { Carried eps0 w g h.now media.now tab.now poles.now s t e.old mem.old e.new mem.new }
@@ -148,7 +142,6 @@ pub fn sweep_cells(
     g: Turn,
 )
     requires fit { Fit g h.now tab.now mem.old e.old }
-    requires laid { Laid g }
     requires dp_room { DpRoom g w poles.now }
     requires count_in_bounds { g.count + g.count + g.count ≤ length media.now }
     ensures { Swept eps0 w g h.now media.now tab.now poles.now e.old mem.old (g.t.n * g.s.n) e.new mem.new }

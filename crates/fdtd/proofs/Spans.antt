@@ -57,6 +57,16 @@ module _ (f : ℕ → Float) (old : List Float) (lo a : ℕ) where
         over = λ q l. t.over q l ∙ s.over q (omega arith);
       }
 
+  -- a part, and then the part before it
+  pub span_before : {f' : ℕ → Float} {mid new : List Float} {y z : ℕ} → Span f old lo y z mid → Span f' mid lo a y new → a ≤ y → y ≤ z → ((i : ℕ) → a ≤ i → i < y → f' i ≡ f i) → Span f old lo a z new
+  span_before {f'} {mid} {new} {y} {z} s t g h p =
+      record {
+        len = t.len ∙ s.len;
+        under = λ q l. t.under q l ∙ s.under q (omega arith);
+        at = λ i m l. ⊎_elim (λ u. t.at i m u ∙ p i m u) (λ u. t.over (lo + i) (omega arith) ∙ s.at i u l) (lt_or_ge i y);
+        over = λ q l. t.over q (omega arith) ∙ s.over q l;
+      }
+
   -- what follows the part is right as it was
   pub span_more : {new : List Float} {y z : ℕ} → Span f old lo a y new → a ≤ y → y ≤ z → ((i : ℕ) → y ≤ i → i < z → get_or old (lo + i) nan ≡ f i) → Span f old lo a z new
   span_more {new} {y} {z} s g h p =

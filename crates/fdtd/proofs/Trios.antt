@@ -6,7 +6,7 @@ use Rattle.root.specs.Rounded.{◌⊖◌}
 use Rattle.fdtd.specs.declared.rows.Scratch.{Scratch}
 use Rattle.fdtd.specs.Yee.{slope}
 use Rattle.fdtd.specs.Inner.Span.{Trio}
-use Rattle.fdtd.proofs.Spans.{span_start, span_as, span_join, first_step}
+use Rattle.fdtd.proofs.Spans.{span_start, span_as, span_join, span_before, first_step}
 use mathlib.Core.List.{List}
 
 pub put_law : (old : Scratch) (i : ℕ) (x y z : Float) → i < length old.first → i < length old.second → i < length old.curl → z ≡ x ⊖ y
@@ -33,6 +33,15 @@ module _ (f g : ℕ → Float) (old : Scratch) (a : ℕ) where
   pub trio_step : {new next : Scratch} {i : ℕ} {x y : Float} → Trio f g old a i new → Trio (λ k. x) (λ k. y) new i (i + 1) next → a ≤ i → x ≡ f i → y ≡ g i → Trio f g old a (i + 1) next
   trio_step {new} {next} {i} w p h ex ey =
       trio_join w p h (omega arith) (λ k u v. let e : i ≡ k = omega arith in ex ∙ ap f e) (λ k u v. let e : i ≡ k = omega arith in ey ∙ ap g e)
+
+  -- a cell before those from the next one on
+  pub trio_front : {new next : Scratch} {z : ℕ} {x y : Float} → Trio f g old (a + 1) z new → Trio (λ k. x) (λ k. y) new a (a + 1) next → a + 1 ≤ z → x ≡ f a → y ≡ g a → Trio f g old a z next
+  trio_front w p h ex ey =
+      record {
+        one = span_before _ _ _ _ w.one p.one (omega arith) h (λ k u v. let e : a ≡ k = omega arith in ex ∙ ap f e);
+        two = span_before _ _ _ _ w.two p.two (omega arith) h (λ k u v. let e : a ≡ k = omega arith in ey ∙ ap g e);
+        three = span_before _ _ _ _ w.three p.three (omega arith) h (λ k u v. let e : a ≡ k = omega arith in rw (ex, ey, e));
+      }
 
   pub trio_end : {new : Scratch} {i n : ℕ} → Trio f g old a i new → i ≡ n → Trio f g old a n new
   trio_end {new} w e = subst (λ (k : ℕ). Trio f g old a k new) e w

@@ -42,21 +42,6 @@ module _ (s : Side) (e : List Float) (n i : ℕ) where
   slope_last {b} p h =
       ap (λ (x : ℕ). slope s.d (get_or e (s.own + i) nan) (get_or e x nan)) (p ∙ next_last s.along s.own s.other i n h)
 
--- they are there
-pub ahead_le : (s : Side) (m n l : ℕ) {t : Differences} → t ≡ ahead_of s → (s.along ≡ true → m < n) → m ≤ n → s.own + n ≤ l → s.other + n ≤ l → t.hi + m ≤ l
-ahead_le s m n l e h k p q = rw e (go s.along h)
-  where
-    go : (b : Bool) → (b ≡ true → m < n) → cond b (s.own + 1) s.other + m ≤ l
-    go true f = let g : m < n = f refl in omega arith
-    go false f = omega arith
-
-pub lo_le : (s : Side) (m n l : ℕ) {t : Differences} → t ≡ ahead_of s → m ≤ n → s.own + n ≤ l → t.lo + m ≤ l
-lo_le s m n l e k p = rw e (omega arith)
-
-pub last_le : (b : Bool) (own other n l : ℕ) {r : ℕ} → r ≡ cond b (own + 0) (other + (n - 1)) → 1 ≤ n → own + n ≤ l → other + n ≤ l → r < l
-last_le true own other n l e h p q = omega arith
-last_le false own other n l e h p q = omega arith
-
 -- where the last cell's neighbour is not the first, no side lies along a whole row
 off_left : (a b : Bool) → (a && b) ≡ false → b ≡ true → a ≡ false
 off_left true b p q = cc

@@ -29,9 +29,9 @@ fn main(rt: HostRuntime) -> io::Result<()> {
         if !o.whole {
             return Ok(());
         }
-        numbers = differ::plus(numbers, o.numbers);
-        apart = differ::plus(apart, o.apart);
-        seen = differ::plus(seen, o.seen);
+        numbers = numbers.saturating_add(o.numbers);
+        apart = apart.saturating_add(o.apart);
+        seen = seen.saturating_add(o.seen);
     }
     output::say_all(&rt, count, numbers, apart, seen)
 }

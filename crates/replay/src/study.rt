@@ -42,7 +42,7 @@ fn see_into(rt: &HostRuntime, xs: &[f64], b: &mut [f64]) -> Seen
     ensures { result.numbers ≡ length xs.now }
 {
     let whole = input::read_floats(rt, b);
-    let c = differ::floats_compared(xs, b);
+    let c = differ::compare(xs, b);
     Seen {
         whole,
         numbers: xs.len() as u64,
@@ -79,7 +79,7 @@ fn see_block(rt: &HostRuntime, r: Record) -> Seen {
     let mut b = [0u8; BLOCK_LENGTH];
     block::put_record(&mut a, r);
     let whole = input::read_bytes(rt, &mut b);
-    let c = differ::bytes_compared(&a, &mut b);
+    let c = differ::compare(&a, &mut b);
     Seen {
         whole,
         numbers: 0,

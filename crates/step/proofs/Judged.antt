@@ -1,7 +1,7 @@
 -- What a study without fault gives. Assumes nothing.
 use Prim.Native.Nat.{ℕ, zero, suc, ◌+◌, ◌≤◌, ◌<◌}
 use native.Mathlib.Omega.{arith}
-use mathlib.Core.Path.{◌≡◌, ap}
+use mathlib.Core.Path.{◌≡◌, sym, ap, ◌∙◌}
 use mathlib.Core.Bool.{Bool, true, false, ◌&&◌, ◌||◌}
 use mathlib.Core.List.{List, [], ◌∷◌}
 use lib.Dec.{eqb, ltb, leb}
@@ -96,3 +96,7 @@ ready r s n e =
       },
       leb-true (r.clock.steps + n) last_step ticks.0,
     )
+
+-- by what a step found no fault with
+pub ready_by : (r : Record) (s : Stores) (n : ℕ) {l : Lengths} → l ≡ lengths_of s → 0 ≡ step_fault r l s.ids n → StepReady r s × (r.clock.steps + n ≤ last_step)
+ready_by r s n e h = ready r s n (sym (h ∙ ap (λ (k : Lengths). step_fault r k s.ids n) e))

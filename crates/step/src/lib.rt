@@ -33,13 +33,25 @@ pub fn advance(
     ensures ids_after { stores e.new h.new media.now psi_e.new psi_h.new tables.now poles.new aux.new ids.now ≡ stepped vacuum.eps0 vacuum.mu0 vacuum.c0 r sample (stores e.old h.old media.now psi_e.old psi_h.old tables.now poles.old aux.old ids.now) }
 {
     halves::magnetic_half(vacuum.mu0, r, e, h, media, psi_h, tables, aux);
-    halves::electric_half(vacuum.eps0, vacuum.c0, r, sample, e, h, media, psi_e, tables, poles, aux, ids,
+    halves::electric_half(
+        vacuum.eps0,
+        vacuum.c0,
+        r,
+        sample,
+        e,
+        h,
+        media,
+        psi_e,
+        tables,
+        poles,
+        aux,
+        ids,
     );
     due::tick(r)
 }
 
 // Moves a study on by one step, from the clock that is handed in beside the record. The sample is what the wave's source gives at time + dt.
-#[tactic(auto, unfolding(crate::specs::Step::step_call), using(crate::proofs::Judged::ready, grid::proofs::Settled::turned_down, grid::proofs::Settled::taken_up, refusals::proofs::Numbers::stands_in))]
+#[tactic(auto, unfolding(crate::specs::Step::step_call), using(grid::proofs::Settled::turned_down, grid::proofs::Settled::taken_up, refusals::proofs::Numbers::stands_in))]
 pub fn step(
     clock: Clock,
     vacuum: Vacuum,

@@ -3,6 +3,7 @@ use cells::IndexBox;
 
 // The component that is corrected on a face (0, 1, 2 along x, y, z), its cells there, the spacing across the face and the sign. The incident number for the
 // plane k is number k + offset of its field.
+// kept: the definitions of specs/Corrections.antt read `there`.
 #[derive(Clone, Copy)]
 pub struct Face {
     pub there: bool,

@@ -1,4 +1,4 @@
-use mathlib.Core.Path.{refl, ◌∙◌, sym, ap}
+use mathlib.Core.Path.{◌∙◌, sym, ap}
 use Prim.Native.Nat.{◌+◌, zero-le}
 use native.Mathlib.Nat.{le_refl}
 use Rattle.root.specs.Rounded.{zero_f}
@@ -25,7 +25,7 @@ row-requires c =
     let f = pre.fit in
     let spot = pre.n_bound in record {
       a_bound = (zero-le, f.some, le_refl g.r.n, f.small);
-      n_in_bounds = (row_fits g.r.at p.q g.r.n g.count _ f.hr spot.0, change_fits a.w g.r.at p.q g.r.n g.count _ change-at.ensures pre.s_lt_n.3 spot.0, pre.s_lt_n.2);
+      n_in_bounds = (row_fits g.r.at p.q g.r.n g.count _ f.hr spot.0, change_fits a.w g.r.at p.q g.r.n g.count _ change-at.ensures pre.s_lt_n.2 spot.0);
       side_room = (
         room_across g.s _ _ _ _ _ _ _ across.ensures (row_fits g.t.at p.q g.r.n g.count _ f.et spot.0)
             (row_fits g.t.at p.bs g.r.n g.count _ f.et spot.1)
@@ -44,10 +44,10 @@ returns-then-walled_at c =
     let a = c.args in
     let g = a.g in
     let p = a.p in
-    let m = idle g.r g.s g.t g.count a.h.now a.tab.now a.mem.now a.scr.now a.poles.now a.e.now a.w p.q g.r.n
+    let m = idle g.r g.s g.t g.count a.h.now a.tab.now a.mem.now a.f.now a.poles.now a.e.now a.w p.q g.r.n
     (λ i. p.s) (λ i. p.t) (λ i. p.bs + i) (λ i. p.bt + i) (λ i. barred (walled g.s p.s) (walled g.t p.t) c.walled_at.ensures c.walled_at-2.ensures c.if-walled_at.true)
     (fill_front a.e.now (g.r.at + p.q) g.r.n zero_f (row_fits g.r.at p.q g.r.n g.count _ pre.fit.hr pre.n_bound.0) c.fill.ensures) in
-    record { span = m.0; two = m.1; top = record { len = refl; over = λ q l. refl } }
+    record { span = m.0; two = m.1 }
 
 pub returns-else-walled_at : goal.returns-else-walled_at
 returns-else-walled_at c =
@@ -58,7 +58,7 @@ returns-else-walled_at c =
     let a = c.args in
     let g = a.g in
     let p = a.p in
-    let m = moved g.r g.s g.t g.count a.h.now a.tab.now a.mem.now a.scr.now a.poles.now a.e.now a.w p.q g.r.n
+    let m = moved g.r g.s g.t g.count a.h.now a.tab.now a.mem.now a.f.now a.poles.now a.e.now a.w p.q g.r.n
     (λ i. p.s) (λ i. p.t) (λ i. p.bs + i) (λ i. p.bt + i) _ _ _ 0 g.r.n _ _
     zero-le (le_refl g.r.n) (row_le p.q g.r.n _ pre.n_bound.0) c.change_at-d.ensures
     (λ i.
@@ -69,4 +69,4 @@ returns-else-walled_at c =
     (across_slope g.t g.s _ a.tab.now _ p.q i p.t 0 _ p.bt _ across2.ensures))
     (λ i l. free (walled g.s p.s) (walled g.t p.t) c.walled_at.ensures c.walled_at-2.ensures c.if-walled_at.false ∙ sym (within_in 0 g.r.n i zero-le l))
     row.ensures.span row.ensures.two in
-    record { span = m.0; two = m.1; top = row.ensures.top }
+    record { span = m.0; two = m.1 }

@@ -1,4 +1,4 @@
-use mathlib.Core.Path.{refl, ◌∙◌, sym, ap}
+use mathlib.Core.Path.{◌∙◌, sym, ap}
 use Prim.Native.Nat.{◌+◌}
 use native.Mathlib.Nat.{le_refl, le_trans}
 use Rattle.root.specs.Rounded.{zero_f}
@@ -28,7 +28,7 @@ row-requires c =
     let start = start_le g.r.wraps a.run.start ready.starts in
     let end = end_fits g.r.wraps g.r.n a.run.end ready.ends f.some in record {
       a_bound = (start, end.0, end.1, f.small);
-      n_in_bounds = (row_fits g.s.at p.q g.r.n g.count _ f.hs spot.0, change_fits a.w g.s.at p.q g.r.n g.count _ change-at.ensures pre.s_lt_n.3 spot.0, pre.s_lt_n.2);
+      n_in_bounds = (row_fits g.s.at p.q g.r.n g.count _ f.hs spot.0, change_fits a.w g.s.at p.q g.r.n g.count _ change-at.ensures pre.s_lt_n.2 spot.0);
       side_room = (
         room_across g.t _ _ _ _ _ _ _ across.ensures (row_fits g.r.at p.q g.r.n g.count _ f.er spot.0)
             (row_fits g.r.at p.bt g.r.n g.count _ f.er spot.2)
@@ -46,11 +46,11 @@ returns-then-walled_at c =
     let a = c.args in
     let g = a.g in
     let p = a.p in
-    let m = idle g.s g.t g.r g.count a.h.now a.tab.now a.mem.now a.scr.now a.poles.now a.e.now a.w p.q g.r.n
+    let m = idle g.s g.t g.r g.count a.h.now a.tab.now a.mem.now a.f.now a.poles.now a.e.now a.w p.q g.r.n
     (λ i. p.t) (λ i. i) (λ i. p.bt + i) (λ i. p.q + previous_of i g.r.n)
     (λ i. barred_left (walled g.t p.t) (walled g.r i) (sym c.walled_at.ensures ∙ c.if-walled_at.true))
     (fill_front a.e.now (g.s.at + p.q) g.r.n zero_f (row_fits g.s.at p.q g.r.n g.count _ pre.fit.hs pre.n_bound.0) c.fill.ensures) in
-    record { span = m.0; two = m.1; top = record { len = refl; over = λ q l. refl } }
+    record { span = m.0; two = m.1 }
 
 pub returns-else-walled_at : goal.returns-else-walled_at
 returns-else-walled_at c =
@@ -64,7 +64,7 @@ returns-else-walled_at c =
     let ready = pre.off_wall_run in
     let start = start_le g.r.wraps a.run.start ready.starts in
     let end = end_fits g.r.wraps g.r.n a.run.end ready.ends pre.fit.some in
-    let m = moved g.s g.t g.r g.count a.h.now a.tab.now a.mem.now a.scr.now a.poles.now a.e.now a.w p.q g.r.n
+    let m = moved g.s g.t g.r g.count a.h.now a.tab.now a.mem.now a.f.now a.poles.now a.e.now a.w p.q g.r.n
     (λ i. p.t) (λ i. i) (λ i. p.bt + i) (λ i. p.q + previous_of i g.r.n) _ _ _ a.run.start a.run.end _ _
     (le_trans start end.0) end.1 (row_le p.q g.r.n _ pre.n_bound.0) c.change_at-d.ensures
     (λ i.
@@ -75,4 +75,4 @@ returns-else-walled_at c =
     (along_slope g.r g.t _ p.q i a.run _ along.ensures))
     (λ i l. left_free (walled g.t p.t) (walled g.r i) (sym c.walled_at.ensures ∙ c.if-walled_at.false) ∙ walls g.r.wraps g.r.n i a.run.start a.run.end ready.starts ready.ends l)
     row.ensures.span row.ensures.two in
-    record { span = m.0; two = m.1; top = row.ensures.top }
+    record { span = m.0; two = m.1 }

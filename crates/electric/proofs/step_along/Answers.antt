@@ -1,6 +1,5 @@
 use native.Mathlib.Nat.{le_trans}
 use Rattle.electric.proofs.Slopes.{ready_of, start_le}
-use mathlib.Core.Path.{refl}
 use Rattle.electric.proofs.step_along.Goals as goal
 
 pub sweep_cells-requires : goal.sweep_cells-requires
@@ -12,4 +11,4 @@ find_lull-run-requires c = (c.requires.fit.tr, le_trans (start_le c.args.g.r.wra
 pub sweep-requires : goal.sweep-requires
 sweep-requires c =
     let pre = c.requires in
-    record { fit = pre.fit; laid = pre.laid; off_wall_run = ready_of c.find_lull-run.ensures c.start_of-start.ensures c.end_of-end.ensures.0; dp_room = pre.dp_room; scr_len = (refl, pre.count_in_bounds) }
+    record { fit = pre.fit; off_wall_run = ready_of c.find_lull-run.ensures c.start_of-start.ensures c.end_of-end.ensures.0; dp_room = pre.dp_room; count_in_bounds = pre.count_in_bounds }

@@ -9,7 +9,7 @@ line-requires c =
     let pre = c.requires in
     let l1 = c.loop-t in
     let l2 = c.loop-s in
-    record { fit = fit_as _ _ pre.fit (omega arith) (omega arith); laid = pre.laid; off_wall_run = pre.off_wall_run; dp_room = pre.dp_room; s_lt_n = (c.loop-s-test.true, c.loop-t-test.true, omega arith, pre.scr_len.1) }
+    record { fit = fit_as _ _ pre.fit (omega arith) (omega arith); off_wall_run = pre.off_wall_run; dp_room = pre.dp_room; s_lt_n = (c.loop-s-test.true, c.loop-t-test.true, pre.count_in_bounds) }
 
 pub loop-s-preserved : goal.loop-s-preserved
 loop-s-preserved c =

@@ -1,4 +1,4 @@
-use Rattle.fdtd.proofs.Fits.{count_for, fit_for, laid_for}
+use Rattle.fdtd.proofs.Fits.{count_for, fit_for}
 use Prim.Native.Nat.{◌*◌}
 use native.Mathlib.Omega.{arith}
 use Rattle.electric.proofs.Polarized.{dp_room, held_for}
@@ -16,7 +16,7 @@ step_along-requires c =
     let a = c.args in
     let pre = c.requires in
     let n = count_for a.r 0 _ turn-of.ensures in
-    record { fit = fit_for a.r 0 (omega arith) pre.sound _ _ _ _ pre.h_len.0 pre.psi_e_len.1 pre.psi_e_len.0 pre.h_len.2 turn-of.ensures; laid = laid_for a.r 0 (omega arith) pre.sound turn-of.ensures; dp_room = held_for a.r _ pre.poles_len turn-of.ensures; count_in_bounds = omega (arith, n, pre.h_len.1) }
+    record { fit = fit_for a.r 0 (omega arith) pre.sound _ _ _ _ pre.h_len.0 pre.psi_e_len.1 pre.psi_e_len.0 pre.h_len.2 turn-of.ensures; dp_room = held_for a.r _ pre.poles_len turn-of.ensures; count_in_bounds = omega (arith, n, pre.h_len.1) }
 
 pub returns : goal.returns
 returns c =

@@ -4,6 +4,7 @@ use Rattle.std.specs.Float.{nan}
 use Rattle.root.specs.Rounded.{◌⊖◌, zero_f}
 use Rattle.cells.specs.Box.{within}
 use Rattle.fdtd.specs.declared.Axis.{Axis}
+use Rattle.fdtd.specs.declared.rows.Differences.{Differences}
 use Rattle.fdtd.specs.declared.rows.Side.{Side}
 use Rattle.fdtd.specs.declared.turns.Run.{Run}
 use Rattle.fdtd.specs.declared.turns.Turn.{Turn}
@@ -13,6 +14,11 @@ use Rattle.fdtd.specs.Inner.Cell.{curl_on, first_on, second_on}
 use Rattle.fdtd.specs.Inner.Rows.{side_layered}
 use Rattle.fdtd.specs.Inner.Turns.{Lull}
 use Rattle.electric.specs.declared.row.Change.{Change}
+use Rattle.electric.specs.declared.row.Factors.{Factors}
+
+-- from the neighbours on a side of a row's cells from the second on to the cells
+abbrev pub behind_of : Side → Differences
+behind_of s = record { lo = cond s.along s.own (s.other + 1); hi = s.own + 1; d = s.d }
 
 -- for the cell i of a row of n: where its neighbour on a side stands, and its derivative there
 unfoldable pub before_at : Side → (n i : ℕ) → ℕ
@@ -28,15 +34,15 @@ dp_of w poles i = cond w.on (get_or poles (w.at + i) nan) zero_f
 abbrev pub change_at : Change → (at q : ℕ) → Change
 change_at w at q = record { on = w.on; at = w.at + at + q; dt = w.dt }
 
--- the new number of the cell i, if it moves: its old one stands at q + i of e, and in scr its curl at 1024 + i, its ca at 1536 + i and its cb at 2048 + i
-unfoldable pub number_of : (moves : Bool) (w : Change) (scr poles e : List Float) (q i : ℕ) → Float
-number_of moves w scr poles e q i =
-    updated_e moves (get_or scr (1536 + i) nan) (get_or scr (2048 + i) nan) w.dt (dp_of w poles i) (get_or scr (1024 + i) nan) (get_or e (q + i) nan)
+-- the new number of the cell i, if it moves: its old one stands at q + i of e
+unfoldable pub number_of : (moves : Bool) (w : Change) (f : Factors) (curl poles e : List Float) (q i : ℕ) → Float
+number_of moves w f curl poles e q i =
+    updated_e moves (get_or f.ca i nan) (get_or f.cb i nan) w.dt (dp_of w poles i) (get_or curl i nan) (get_or e (q + i) nan)
 
 -- the same by the row's sides: the cells from a up to z move
-unfoldable pub field_of : (b c : Side) (w : Change) (h tab mem scr poles e : List Float) (n a z q i : ℕ) → Float
-field_of b c w h tab mem scr poles e n a z q i =
-    updated_e (within a z i) (get_or scr (1536 + i) nan) (get_or scr (2048 + i) nan) w.dt (dp_of w poles i)
+unfoldable pub field_of : (b c : Side) (w : Change) (h tab mem : List Float) (f : Factors) (poles e : List Float) (n a z q i : ℕ) → Float
+field_of b c w h tab mem f poles e n a z q i =
+    updated_e (within a z i) (get_or f.ca i nan) (get_or f.cb i nan) w.dt (dp_of w poles i)
     (side_layered true c tab mem i (slope_of c h n i) (side_layered false b tab mem i (slope_of b h n i) (slope_of b h n i ⊖ slope_of c h n i)))
     (get_or e (q + i) nan)
 

@@ -8,7 +8,7 @@ pub returns : goal.returns
 returns c =
     let pre = c.requires in
     let a = c.args in
-    edged a.w _ _ _ _ _ _ a.q a.n a.a a.z pre.0 pre.1
+    edged a.w _ _ _ _ _ _ _ a.q a.n a.a a.z pre.0 pre.1
     (fill_front a.e.now a.q a.a zero_f (omega (arith, pre)) c.fill.ensures)
     c.fields.ensures
     (fill_span _ a.q a.z (a.n - a.z) zero_f c.fill-2.ensures (omega arith) (omega (arith, pre)) (omega (arith, pre, c.fill.auto.s, c.fields.auto.e)))

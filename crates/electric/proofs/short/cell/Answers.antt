@@ -1,4 +1,4 @@
-use mathlib.Core.Path.{◌∙◌}
+use mathlib.Core.Path.{◌∙◌, refl}
 use native.Mathlib.Omega.{arith}
 use Rattle.fdtd.proofs.Lines.{fit_as}
 use Rattle.fdtd.proofs.Beside.{near_r, near_s, near_t}
@@ -31,7 +31,7 @@ returns c =
     let a = c.args in
     let pre = c.requires in
     let f = c.weights_of-f in
-    cell_shared a.eps0 a.w a.g a.h.now a.media.now a.tab.now a.poles.now a.s a.t a.i pre.laid _ _ _ _ _ _ _ _ a.v pre.known pre.i_lt_n.0
-    f.result c.previous_of.ensures.0 c.free_at-gor.ensures c.coef_of-kr.ensures c.at.ensures f.ensures.0 f.ensures.1
-    c.both-go_r.ensures c.both-go_s.ensures c.both-go_t.ensures c.turned-gs.ensures c.turned-gt.ensures
+    cell_shared a.eps0 a.w a.g a.h.now a.media.now a.tab.now a.poles.now a.s a.t a.i pre.fit.laid _ _ _ _ _ _ _ _ a.v pre.known pre.i_lt_n.0
+    f.result c.previous_of.ensures.0 c.free_at-gor.ensures c.coef_of-kr.ensures refl f.ensures.0 f.ensures.1
+    refl refl refl c.turned-gs.ensures c.turned-gt.ensures
     c.component.ensures c.component-2.ensures c.component-3.ensures

@@ -15,7 +15,7 @@ cells_of_row-requires c =
     let pre = c.requires in
     let l1 = c.loop-t in
     let l2 = c.loop-s in
-    record { fit = fit_as _ _ pre.fit (omega arith) (omega arith); laid = pre.laid; dp_room = pre.dp_room; s_lt_n = (c.loop-s-test.true, c.loop-t-test.true, pre.count_in_bounds, refl) }
+    record { fit = fit_as _ _ pre.fit (omega arith) (omega arith); dp_room = pre.dp_room; s_lt_n = (c.loop-s-test.true, c.loop-t-test.true, pre.count_in_bounds, refl) }
 
 pub loop-s-preserved : goal.loop-s-preserved
 loop-s-preserved c =

@@ -1,5 +1,6 @@
 // One step, and many.
 ghost use Rattle.std.specs.Prelude.{◌≡◌};
+ghost use Rattle.refusals.specs.Refusals.{code};
 ghost use Rattle.grid.specs.Vacuum.{eps_of, mu_of, light_of};
 ghost use Rattle.grid.specs.Stores.{stores};
 ghost use Rattle.step.specs.Step.{step_call};
@@ -7,7 +8,7 @@ ghost use Rattle.run.specs.Run.{run_call};
 ghost use Rattle.calls.specs.Blocks.{sent, clock_on_block};
 
 use calls::blocks;
-use grid::fault::BAD_STUDY;
+use refusals::Refusal;
 use root::vacuum;
 
 pub fn step(
@@ -22,19 +23,15 @@ pub fn step(
     poles: &mut [f64],
     aux: &mut [f64],
     ids: &[u32],
-) -> u32
-    ensures { sent result b.new (stores e.new h.new media.now psi_e.new psi_h.new tables.now poles.new aux.new ids.now) ≡ clock_on_block (λ r. step_call (eps_of r) (mu_of r) (light_of r) r sample (stores e.old h.old media.now psi_e.old psi_h.old tables.now poles.old aux.old ids.now)) b.old (stores e.old h.old media.now psi_e.old psi_h.old tables.now poles.old aux.old ids.now) }
+) -> Result<(), Refusal>
+    ensures { sent (code result) b.new (stores e.new h.new media.now psi_e.new psi_h.new tables.now poles.new aux.new ids.now) ≡ clock_on_block (λ r. step_call (eps_of r) (mu_of r) (light_of r) r sample (stores e.old h.old media.now psi_e.old psi_h.old tables.now poles.old aux.old ids.now)) b.old (stores e.old h.old media.now psi_e.old psi_h.old tables.now poles.old aux.old ids.now) }
 {
-    if !block::is_record(b) {
-        return BAD_STUDY;
-    }
-    let r = block::get_record(b);
+    let r = blocks::record_of(b)?;
     let v = vacuum::chosen(r.constants);
-    let o = clock::step_record(
-        v.eps0, v.mu0, v.c0, r, sample, e, h, media, psi_e, psi_h, tables, poles, aux, ids,
+    let moved = clock::step_record(
+        v, r, sample, e, h, media, psi_e, psi_h, tables, poles, aux, ids,
     );
-    blocks::keep_clock(b, o.refusal, o.clock);
-    o.refusal
+    blocks::keep_clock(b, moved)
 }
 
 pub fn run(
@@ -49,17 +46,13 @@ pub fn run(
     poles: &mut [f64],
     aux: &mut [f64],
     ids: &[u32],
-) -> u32
-    ensures { sent result b.new (stores e.new h.new media.now psi_e.new psi_h.new tables.now poles.new aux.new ids.now) ≡ clock_on_block (λ r. run_call (eps_of r) (mu_of r) (light_of r) r samples.now (stores e.old h.old media.now psi_e.old psi_h.old tables.now poles.old aux.old ids.now)) b.old (stores e.old h.old media.now psi_e.old psi_h.old tables.now poles.old aux.old ids.now) }
+) -> Result<(), Refusal>
+    ensures { sent (code result) b.new (stores e.new h.new media.now psi_e.new psi_h.new tables.now poles.new aux.new ids.now) ≡ clock_on_block (λ r. run_call (eps_of r) (mu_of r) (light_of r) r samples.now (stores e.old h.old media.now psi_e.old psi_h.old tables.now poles.old aux.old ids.now)) b.old (stores e.old h.old media.now psi_e.old psi_h.old tables.now poles.old aux.old ids.now) }
 {
-    if !block::is_record(b) {
-        return BAD_STUDY;
-    }
-    let r = block::get_record(b);
+    let r = blocks::record_of(b)?;
     let v = vacuum::chosen(r.constants);
-    let o = run::run(
-        v.eps0, v.mu0, v.c0, r, samples, e, h, media, psi_e, psi_h, tables, poles, aux, ids,
+    let moved = run::run(
+        v, r, samples, e, h, media, psi_e, psi_h, tables, poles, aux, ids,
     );
-    blocks::keep_clock(b, o.refusal, o.clock);
-    o.refusal
+    blocks::keep_clock(b, moved)
 }

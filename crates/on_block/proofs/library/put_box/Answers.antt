@@ -1,18 +1,18 @@
-use Rattle.grid.proofs.Tests.{unless, met}
-use Rattle.block.proofs.Turns.{block_long}
-use Rattle.on_block.proofs.Passing.{well, telling_of, untold}
+use Rattle.std.proofs.Common.{rules, ◌≡◌}
+use Rattle.refusals.specs.Refusals.{code, number}
+use Rattle.read_block.proofs.Passing.{answered_anew}
+use Rattle.on_block.proofs.Passing.{stays, well, telling_of}
 use Rattle.on_block.proofs.library.put_box.Goals as goal
 
-pub returns-then-not-is_record : goal.returns-then-not-is_record
-returns-then-not-is_record c = untold _ _ c.args.cells.now (unless c.is_record.ensures c.if-not-is_record.true) c.answer_number.ensures
-
-pub get_record-r-requires : goal.get_record-r-requires
-get_record-r-requires c = met c.is_record.ensures c.if-not-is_record.false
-
-pub keep-requires : goal.keep-requires
-keep-requires c = block_long _ (met c.is_record.ensures c.if-not-is_record.false)
+pub returns-in_err-count : goal.returns-in_err-count
+returns-in_err-count c =
+    let own = c.in_ok-r.ensures.record in
+    let told : code c.from_residual-in_err-count.result ≡ number c.in_err-count.field-0.0 = search rules in
+    stays _ _ _ own.0 own.1 _ (search rules) told (telling_of _ _ _ c.args.cells.now c.in_err-count.ensures c.put_asked-what.ensures c.answer.ensures)
 
 pub returns : goal.returns
 returns c =
-    well _ _ _ (met c.is_record.ensures c.if-not-is_record.false) c.get_record-r.ensures
-    (telling_of _ _ _ c.args.cells.now c.put_box-o.ensures c.put_asked-what.ensures c.answer_number-2.ensures) c.keep.ensures
+    let own = c.in_ok-r.ensures.record in
+    well _ _ _ own.0 own.1 c.keep.ensures.fault
+    (telling_of _ _ _ c.args.cells.now c.in_ok-count.ensures c.put_asked-what.ensures (answered_anew _ _ _ c.answer.ensures c.answer-2.ensures))
+    (c.keep.ensures.block c.in_ok-r.r)

@@ -1,16 +1,15 @@
-use Rattle.grid.proofs.Tests.{unless, met}
-use Rattle.block.proofs.Turns.{block_long}
-use Rattle.on_block.proofs.Passing.{ill, well}
+use Rattle.std.proofs.Common.{rules, ◌≡◌}
+use Rattle.refusals.specs.Refusals.{code, number}
+use Rattle.on_block.proofs.Passing.{stays, well}
 use Rattle.on_block.proofs.studies.reset_fields.Goals as goal
 
-pub returns-then-not-is_record : goal.returns-then-not-is_record
-returns-then-not-is_record c = ill _ _ _ (unless c.is_record.ensures c.if-not-is_record.true)
-
-pub get_record-r-requires : goal.get_record-r-requires
-get_record-r-requires c = met c.is_record.ensures c.if-not-is_record.false
-
-pub keep-requires : goal.keep-requires
-keep-requires c = block_long _ (met c.is_record.ensures c.if-not-is_record.false)
+pub returns-in_err-reset_fields : goal.returns-in_err-reset_fields
+returns-in_err-reset_fields c =
+    let own = c.in_ok-r.ensures.record in
+    let told : code c.from_residual-in_err-reset_fields.result ≡ number c.in_err-reset_fields.field-0.0 = search rules in
+    stays _ _ _ own.0 own.1 _ (search rules) told c.in_err-reset_fields.ensures
 
 pub returns : goal.returns
-returns c = well _ _ _ (met c.is_record.ensures c.if-not-is_record.false) c.get_record-r.ensures c.reset_fields-o.ensures c.keep.ensures
+returns c =
+    let own = c.in_ok-r.ensures.record in
+    well _ _ _ own.0 own.1 c.keep.ensures.fault c.in_ok-reset_fields.ensures (c.keep.ensures.block c.in_ok-r.r)

@@ -1,16 +1,17 @@
-use Rattle.grid.proofs.Tests.{unless, met}
-use Rattle.block.proofs.Turns.{block_long}
-use Rattle.on_block.proofs.Passing.{well, naming_of, unnamed}
+use Rattle.std.proofs.Common.{rules, refl, ◌≡◌}
+use Rattle.refusals.specs.Refusals.{code, number}
+use Rattle.read_block.proofs.Passing.{answered_anew}
+use Rattle.on_block.proofs.Passing.{stays, well, naming_of}
 use Rattle.on_block.proofs.walls.set_boundary_cpml.Goals as goal
 
-pub returns-then-not-is_record : goal.returns-then-not-is_record
-returns-then-not-is_record c = unnamed _ _ c.args.active.now (unless c.is_record.ensures c.if-not-is_record.true) c.answer_number.ensures
-
-pub get_record-r-requires : goal.get_record-r-requires
-get_record-r-requires c = met c.is_record.ensures c.if-not-is_record.false
-
-pub keep-requires : goal.keep-requires
-keep-requires c = block_long _ (met c.is_record.ensures c.if-not-is_record.false)
+pub returns-in_err-r-2 : goal.returns-in_err-r-2
+returns-in_err-r-2 c =
+    let own = c.in_ok-r.ensures.record in
+    let told : code c.from_residual-in_err-r-2.result ≡ number c.in_err-r-2.field-0.0 = search rules in
+    stays _ _ _ own.0 own.1 _ (search rules) told (naming_of c.args.active.now c.in_err-r-2.ensures refl c.answer.ensures)
 
 pub returns : goal.returns
-returns c = well _ _ _ (met c.is_record.ensures c.if-not-is_record.false) c.get_record-r.ensures (naming_of c.args.active.now c.set_boundary_cpml-o.ensures c.axis_bits.ensures c.answer_number-2.ensures) c.keep.ensures
+returns c =
+    let own = c.in_ok-r.ensures.record in
+    well _ _ _ own.0 own.1 c.keep.ensures.fault
+    (naming_of c.args.active.now c.in_ok-r-2.ensures c.axis_bits.ensures (answered_anew _ _ _ c.answer.ensures c.answer-2.ensures)) (c.keep.ensures.block c.in_ok-r.r)

@@ -1,6 +1,5 @@
-use Rattle.std.proofs.Common.{◌<◌, ap, ◌∙◌, drop, length-set, arith}
-use Rattle.heads.specs.Numbers.{ml_of}
-use Rattle.heads.proofs.Listed.{entry_at_lem, one_read, all_read}
+use Rattle.std.proofs.Common.{arith}
+use Rattle.heads.proofs.Listed.{all_read}
 use Rattle.reads.proofs.entries.get_materials.Goals as goal
 
 pub returns : goal.returns

@@ -1,13 +1,14 @@
 -- Bytes that hold the counted materials of a record without fault, entry by entry: each entry says its material's numbers, and with GH they say the record
 -- again, without what means nothing. Assumes nothing.
-use Prim.Native.Nat.{ℕ, zero, suc, ◌*◌, ◌≤◌, ◌<◌}
+use Prim.Native.Nat.{ℕ, ◌*◌, ◌≤◌, ◌<◌}
 use native.Mathlib.Omega.{arith}
 use mathlib.Core.Path.{◌≡◌, refl, sym, ap, ◌∙◌}
 use mathlib.Core.Bool.{Bool, true, false, cond}
-use mathlib.Core.List.{List, [], ◌∷◌, ◌++◌, map}
+use mathlib.Core.List.{List, ◌++◌, map}
 use borrow.Author.Tests.{ltb-true}
 use lib.Dec.{T, ltb}
-use lib.ListN.{length, get_or, drop, take-append-drop, length-map, get_or-map}
+use lib.ListN.{get_or, drop, take-append-drop, length-map, get_or-map}
+use Rattle.std.proofs.lemmas.List.{get_or_default}
 use Rattle.codec.specs.Lists.{part}
 use Rattle.codec.specs.Bytes.{enc, nums, fit_all}
 use Rattle.codec.proofs.Row.{nums_enc}
@@ -28,12 +29,6 @@ nums_part : (ws ns l : List ℕ) (at m : ℕ) → T (fit_all ws ns) → part l a
 unfolding part
 nums_part ws ns l at m t e =
     ap (nums ws) (sym (take-append-drop m (drop at l)) ∙ ap (λ (x : List ℕ). x ++ drop m (drop at l)) e) ∙ nums_enc ws ns (drop m (drop at l)) t
-
--- an element that is there, whatever stands past the end
-at_any : {A : Type 0} (l : List A) (i : ℕ) (d e : A) → i < length l → get_or l i d ≡ get_or l i e
-at_any [] i d e h = absurd (let z : ⊥ = omega arith in z)
-at_any (x ∷ l) zero d e h = refl
-at_any (x ∷ l) (suc i) d e h = at_any l i d e (omega arith)
 
 module _ (r : Record) (ok : fault_of r ≡ 0) (h : Held r) (p : List ℕ)
     (parts : (i : ℕ) → i < r.material_count → part p (ml_length * i) ml_length ≡ material_bytes (get_or r.materials i beyond)) where
@@ -59,7 +54,7 @@ module _ (r : Record) (ok : fault_of r ≡ 0) (h : Held r) (p : List ℕ)
       there : (i : ℕ) → i < 16 → canon_material (material i) ≡ get_or (map canon_material r.materials) i vacuum_material
       there i l =
           sym (get_or-map canon_material r.materials i beyond)
-          ∙ at_any (map canon_material r.materials) i _ _ (omega (arith, length-map r.materials canon_material, h.sixteen))
+          ∙ get_or_default (map canon_material r.materials) i _ _ (omega (arith, length-map r.materials canon_material, h.sixteen))
 
       go : (i : ℕ) → i < 16 → (t : Bool) → ltb i count ≡ t →
           cond t (ml_of (entry_at p i)) vacuum_material ≡ cond t (get_or (map canon_material r.materials) i vacuum_material) vacuum_material

@@ -2,8 +2,8 @@
 use Prim.Native.Nat.{ℕ, ◌+◌, ◌*◌, ◌^◌, ◌≤◌, ◌<◌}
 use native.Mathlib.Numerals.{add-one}
 use native.Mathlib.Omega.{arith}
-use mathlib.Core.Path.{◌≡◌, refl, sym, ap, ◌∙◌}
-use mathlib.Core.Bool.{Bool, true, false, cond, ◌&&◌}
+use mathlib.Core.Path.{◌≡◌, sym, ap, ◌∙◌}
+use mathlib.Core.Bool.{Bool, true, false, cond, ◌&&◌, and_assoc, and-true}
 use mathlib.Core.List.{List, ◌++◌}
 use borrow.Author.Tests.{lt-ltb, le-ltb, eq-eqb, ne_eqb, eqb-true}
 use lib.Dec.{T, ltb, eqb, lt→ltb}
@@ -27,14 +27,6 @@ use Rattle.heads.proofs.Listed.{entry_at_lem}
 use Rattle.block.specs.Block.{block_length, entry_bytes, block_of, entries, all_zero, entry_fine, block_fine}
 
 -- ---- zeros: z is what the first i numbers came to
-and_assoc : (x y z : Bool) → ((x && y) && z) ≡ (x && (y && z))
-and_assoc true y z = refl
-and_assoc false y z = refl
-
-and_true : (x : Bool) → (x && true) ≡ x
-and_true true = refl
-and_true false = refl
-
 module _ (l : List ℕ) (i : ℕ) (z : Bool) (same : (z && all_zero (drop i l)) ≡ all_zero l) where
   pub zeros_more : i < length l → (z && eqb (get_or l i 0) 0 && all_zero (drop (i + 1) l)) ≡ all_zero l
   unfolding every
@@ -45,7 +37,7 @@ module _ (l : List ℕ) (i : ℕ) (z : Bool) (same : (z && all_zero (drop i l)) 
 
   pub zeros_all : length l ≤ i → z ≡ all_zero l
   unfolding every
-  zeros_all h = sym (and_true z) ∙ ap (λ (x : List ℕ). z && all_zero x) (sym (drop_of_length-le l h)) ∙ same
+  zeros_all h = sym (and-true z) ∙ ap (λ (x : List ℕ). z && all_zero x) (sym (drop_of_length-le l h)) ∙ same
 
 -- ---- one entry, judged; count is the block's own
 module _ (b : List ℕ) (i count : ℕ) (own : count ≡ count_of (head_of b)) where

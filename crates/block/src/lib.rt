@@ -27,10 +27,8 @@ fn all_zero(s: &[u8]) -> bool
     ensures { result ≡ all_zero s.now }
 {
     let mut zero = true;
-    let mut i = 0;
-    while i < s.len() {
-        zero = zero & (s[i] == 0);
-        i += 1;
+    for x in s {
+        zero &= *x == 0;
     }
     zero
 }
@@ -52,12 +50,10 @@ fn entries_fine(b: &[u8], count: usize) -> bool
     requires { (length b.now ≡ block_length) × (count ≡ count_of (head_of b.now)) }
     ensures { result ≡ all_below (entry_fine b.now) 16 }
 {
-    let mut i = 0;
-    while i < ENTRIES {
+    for i in 0..ENTRIES {
         if !entry_fine(b, i, count) {
             return false;
         }
-        i += 1;
     }
     true
 }
@@ -74,6 +70,7 @@ pub fn is_record(b: &[u8]) -> bool
 }
 
 // How many of the entries are counted.
+// kept: no `min`, and below no `fill`, since the test on the source follows each call of what writes a save (docs/DECISIONS.md, D-52).
 fn counted_of(count: usize) -> usize
     ensures { (result ≤ 16) × ((i : ℕ) → i < 16 → ltb i result ≡ ltb i count) }
 {
@@ -95,10 +92,8 @@ fn put_zeros(b: &mut [u8], at: usize)
     requires { at + ml_length ≤ length b.old }
     ensures { b.new ≡ put b.old at (replicate ml_length 0) }
 {
-    let mut i = 0;
-    while i < ML_LENGTH {
+    for i in 0..ML_LENGTH {
         b[at + i] = 0;
-        i += 1;
     }
 }
 
@@ -118,11 +113,9 @@ fn put_entries(b: &mut [u8], r: Record)
     ensures { b.new ≡ put b.old gh_length (joined 16 (entry_bytes r)) }
 {
     let count = r.material_count;
-    let mut i = 0;
-    while i < ENTRIES {
+    for i in 0..ENTRIES {
         let m = r.materials[i];
         put_entry(b, GH_LENGTH + ML_LENGTH * i, i < count, m);
-        i += 1;
     }
 }
 

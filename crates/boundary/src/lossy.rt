@@ -1,5 +1,5 @@
 // The graded conductivity of the lossy absorber.
-ghost use Rattle.std.specs.Prelude.{◌≡◌, ◌+◌, ◌-◌, ◌*◌, ◌≤◌, length, slice_index_or};
+ghost use Rattle.std.specs.Prelude.{◌≡◌, ℕ, ◌<◌, ◌+◌, ◌-◌, ◌*◌, ◌≤◌, length, slice_index_or};
 ghost use Rattle.std.specs.Float.{nan};
 ghost use Rattle.codec.specs.Lists.{put};
 ghost use Rattle.cells.specs.Cells.{joined, row, cellwise};
@@ -62,13 +62,13 @@ fn clamp(periodic: bool, thickness: usize, n: usize) -> usize
     if periodic { 0 } else { thickness.min(n / 2) }
 }
 
-// One wall's conductivity by the distance from it, n distances from at on.
-fn fill_wall(walls: &mut [f64], at: usize, n: usize, t: usize, a: LossyAbsorber)
-    requires { at + n ≤ length walls.old }
-    ensures { walls.new ≡ put walls.old at (row n (wall_sigma t a.order a.sigma_max)) }
+// One wall's conductivity by the distance from it.
+fn fill_wall(wall: &mut [f64; 512], n: usize, t: usize, a: LossyAbsorber)
+    requires { n ≤ 512 }
+    ensures { (d : ℕ) → d < n → slice_index_or wall.new d nan ≡ wall_sigma t a.order a.sigma_max d }
 {
     for d in 0..n {
-        walls[at + d] = wall_sigma(t, a.order, a.sigma_max, d);
+        wall[d] = wall_sigma(t, a.order, a.sigma_max, d);
     }
 }
 
@@ -77,78 +77,63 @@ fn lossy_row(
     media: &mut [f64],
     at: usize,
     nx: usize,
-    walls: &[f64],
+    x: &[f64; 512],
     y0: f64,
     y1: f64,
     z0: f64,
     z1: f64,
 )
-    requires { (at + nx ≤ length media.old) × (nx ≤ length walls.now) }
-    ensures { media.new ≡ put media.old at (row nx (λ i. strongest (slice_index_or walls.now i nan) (slice_index_or walls.now (nx - 1 - i) nan) y0 y1 z0 z1)) }
+    requires { (at + nx ≤ length media.old) × (nx ≤ 512) }
+    ensures { media.new ≡ put media.old at (row nx (λ i. strongest (slice_index_or x.now i nan) (slice_index_or x.now (nx - 1 - i) nan) y0 y1 z0 z1)) }
 {
     for i in 0..nx {
-        media[at + i] = strongest_of(walls[i], walls[nx - 1 - i], y0, y1, z0, z1);
+        media[at + i] = strongest_of(x[i], x[nx - 1 - i], y0, y1, z0, z1);
     }
 }
 
-// The walls of y stand after those of x.
-fn lossy_plane(media: &mut [f64], at: usize, nx: usize, ny: usize, walls: &[f64], z0: f64, z1: f64)
-    requires { (at + ny * nx ≤ length media.old) × (nx + ny ≤ length walls.now) }
-    ensures { media.new ≡ put media.old at (joined ny (λ j. row nx (λ i. strongest (slice_index_or walls.now i nan) (slice_index_or walls.now (nx - 1 - i) nan) (slice_index_or walls.now (nx + j) nan) (slice_index_or walls.now (nx + (ny - 1 - j)) nan) z0 z1))) }
+fn lossy_plane(
+    media: &mut [f64],
+    at: usize,
+    nx: usize,
+    ny: usize,
+    x: &[f64; 512],
+    y: &[f64; 512],
+    z0: f64,
+    z1: f64,
+)
+    requires { (at + ny * nx ≤ length media.old) × (nx ≤ 512) × (ny ≤ 512) }
+    ensures { media.new ≡ put media.old at (joined ny (λ j. row nx (λ i. strongest (slice_index_or x.now i nan) (slice_index_or x.now (nx - 1 - i) nan) (slice_index_or y.now j nan) (slice_index_or y.now (ny - 1 - j) nan) z0 z1))) }
 {
     for j in 0..ny {
-        lossy_row(
-            media,
-            at + j * nx,
-            nx,
-            walls,
-            walls[nx + j],
-            walls[nx + (ny - 1 - j)],
-            z0,
-            z1,
-        );
-    }
-}
-
-// The walls of z stand after those of x and y.
-fn lossy_cells(media: &mut [f64], at: usize, nx: usize, ny: usize, nz: usize, walls: &[f64])
-    requires { (at + nz * (ny * nx) ≤ length media.old) × (nx + ny + nz ≤ length walls.now) × (ny * nx ≤ 262144) }
-    ensures { media.new ≡ put media.old at (cellwise nx ny nz (λ i j k. strongest (slice_index_or walls.now i nan) (slice_index_or walls.now (nx - 1 - i) nan) (slice_index_or walls.now (nx + j) nan) (slice_index_or walls.now (nx + (ny - 1 - j)) nan) (slice_index_or walls.now (nx + ny + k) nan) (slice_index_or walls.now (nx + ny + (nz - 1 - k)) nan))) }
-{
-    let plane = ny * nx;
-    let z = nx + ny;
-    for k in 0..nz {
-        lossy_plane(
-            media,
-            at + k * plane,
-            nx,
-            ny,
-            walls,
-            walls[z + k],
-            walls[z + (nz - 1 - k)],
-        );
+        lossy_row(media, at + j * nx, nx, x, y[j], y[ny - 1 - j], z0, z1);
     }
 }
 
 // sigma of every cell, from the three clamped thicknesses.
-fn graded(
-    media: &mut [f64],
-    nx: usize,
-    ny: usize,
-    nz: usize,
-    tx: usize,
-    ty: usize,
-    tz: usize,
-    a: LossyAbsorber,
-)
-    requires { (nx ≤ 512) × (ny ≤ 512) × (nz ≤ 512) × (ny * nx ≤ 262144) × (length media.old ≡ 3 * (nz * (ny * nx))) }
-    ensures { media.new ≡ put media.old (2 * (nz * (ny * nx))) (cellwise nx ny nz (graded_sigma nx ny nz tx ty tz a.order a.sigma_max)) }
+fn graded(media: &mut [f64], r: Record, tx: usize, ty: usize, tz: usize, a: LossyAbsorber)
+    requires { (r.nx ≤ 512) × (r.ny ≤ 512) × (r.nz ≤ 512) × (r.ny * r.nx ≤ 262144) × (length media.old ≡ 3 * (r.nz * (r.ny * r.nx))) }
+    ensures { media.new ≡ put media.old (2 * (r.nz * (r.ny * r.nx))) (cellwise r.nx r.ny r.nz (graded_sigma r.nx r.ny r.nz tx ty tz a.order a.sigma_max)) }
 {
-    let mut walls = [0.0; 1536];
-    fill_wall(&mut walls, 0, nx, tx, a);
-    fill_wall(&mut walls, nx, ny, ty, a);
-    fill_wall(&mut walls, nx + ny, nz, tz, a);
-    lossy_cells(media, 2 * (nz * (ny * nx)), nx, ny, nz, &walls);
+    let mut x = [0.0; 512];
+    let mut y = [0.0; 512];
+    let mut z = [0.0; 512];
+    fill_wall(&mut x, r.nx, tx, a);
+    fill_wall(&mut y, r.ny, ty, a);
+    fill_wall(&mut z, r.nz, tz, a);
+    let plane = r.ny * r.nx;
+    let at = 2 * (r.nz * plane);
+    for k in 0..r.nz {
+        lossy_plane(
+            media,
+            at + k * plane,
+            r.nx,
+            r.ny,
+            &x,
+            &y,
+            z[k],
+            z[r.nz - 1 - k],
+        );
+    }
 }
 
 pub fn apply_lossy_absorber(r: Record, a: LossyAbsorber, media: &mut [f64])
@@ -162,5 +147,5 @@ pub fn apply_lossy_absorber(r: Record, a: LossyAbsorber, media: &mut [f64])
     if (tx == 0) & (ty == 0) & (tz == 0) {
         return;
     }
-    graded(media, r.nx, r.ny, r.nz, tx, ty, tz, a);
+    graded(media, r, tx, ty, tz, a);
 }

@@ -64,7 +64,7 @@ pub drop_le : (w n : ℕ) (r : List ℕ) → drop w (le w n ++ r) ≡ r
 drop_le w n r = drop_at (le w n) r w (length_le w n)
 
 -- ---- a number in two halves, w bytes and v more
-le_low : (w n : ℕ) → le w (n % 256 ^ w) ≡ le w n
+pub le_low : (w n : ℕ) → le w (n % 256 ^ w) ≡ le w n
 unfolding le
 le_low zero n = refl
 le_low (suc w) n =

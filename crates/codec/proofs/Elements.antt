@@ -7,10 +7,10 @@ use native.Mathlib.Nat.{mul-zero, mul-suc, suc-add, zero-add}
 use native.Mathlib.Omega.{arith}
 use lib.Dec.{T}
 use lib.Ieee.Fits.{and_l, and_r}
-use lib.ListN.{length, take, drop, length-append, length-drop}
+use lib.ListN.{length, take, drop, replicate, length-append, length-drop}
 use lib.Seq.{length-take-le, drop-drop, take-add}
 use Rattle.codec.specs.Lists.{every}
-use Rattle.codec.specs.Bytes.{le, unle, bytes_fit, bytes_of, elements_of, all_pass}
+use Rattle.codec.specs.Bytes.{le, unle, bytes_fit, bytes_of, elements_of, all_pass, enc, nums}
 use Rattle.codec.proofs.Lists.{every_cons, every_append, every_take, every_drop}
 use Rattle.codec.proofs.Bytes.{length_le, le_fit, unle_le, le_unle, first_lt, take_le, drop_le}
 
@@ -120,3 +120,14 @@ module _ {A : Type 0} (w : ℕ) (g : ℕ → A) where
       every_cons ok (g (unle (take w l))) (elements_of w g n (drop w l))
       (good (unle (take w l)) (first_lt w l (omega arith) b))
       (elements_fit ok good n (drop w l) (omega (arith, length-drop w l)) (every_drop _ w l b))
+
+-- ---- a row whose widths are all the same
+pub enc_same : (w : ℕ) (ns : List ℕ) → enc (replicate (length ns) w) ns ≡ bytes_of w (λ n. n) ns
+unfolding enc bytes_of
+enc_same w [] = refl
+enc_same w (n ∷ ns) = ap (λ (r : List ℕ). le w n ++ r) (enc_same w ns)
+
+pub nums_same : (w n : ℕ) (l : List ℕ) → nums (replicate n w) l ≡ elements_of w (λ n. n) n l
+unfolding nums elements_of
+nums_same w zero l = refl
+nums_same w (suc n) l = ap (λ (r : List ℕ). unle (take w l) ∷ r) (nums_same w n (drop w l))

@@ -6,5 +6,5 @@ pub mod Elements
 pub mod Back
 pub mod Row
 pub mod Framed
--- The turns of this crate's loops.
-mod Loops
+-- The turns of loops over a store, or over numbers of one width.
+pub mod Loops

@@ -1,18 +1,18 @@
 -- The loops over a store, stated once over the width and the element: what each has done before its turn i, and what a turn adds.
-use mathlib.Core.Path.{◌≡◌, sym, ap, ◌∙◌}
+use mathlib.Core.Path.{◌≡◌, refl, sym, ap, ◌∙◌}
 use mathlib.Core.List.{List, [], ◌∷◌, ◌++◌, append-nil}
 use mathlib.Core.Bool.{Bool, true, false, ◌&&◌, and-true, and-false}
 use Prim.Native.Nat.{ℕ, suc, ◌+◌, ◌-◌, ◌*◌, ◌≤◌, ◌<◌}
 use native.Mathlib.Nat.{mul-suc, mul-le-mul_left}
 use native.Mathlib.Numerals.{add-one}
 use native.Mathlib.Omega.{arith}
-use lib.ListN.{length, take, drop, get_or, set}
-use lib.Seq.{length-take-le, take-suc, drop-cons, set_at, append_snoc}
+use lib.ListN.{length, take, drop, get_or, set, replicate, length-replicate, drop_of_length-le}
+use lib.Seq.{length-take-le, take-suc, take_all, drop-cons, set_at, append_snoc}
 use Rattle.codec.specs.Lists.{put, part}
-use Rattle.codec.specs.Bytes.{le, unle, bytes_of, elements_of, all_pass}
+use Rattle.codec.specs.Bytes.{le, unle, bytes_of, elements_of, all_pass, enc, nums}
 use Rattle.codec.proofs.Lists.{put_nil, put_next, part_drop}
 use Rattle.codec.proofs.Bytes.{length_le}
-use Rattle.codec.proofs.Elements.{length_bytes_of, bytes_of_append, length_elements_of, elements_of_add, all_pass_add}
+use Rattle.codec.proofs.Elements.{length_bytes_of, bytes_of_append, length_elements_of, elements_of_add, all_pass_add, enc_same, nums_same}
 
 -- ---- writing
 module _ {A : Type 0} (w : ℕ) (f : A → ℕ) (l : List ℕ) (at : ℕ) (xs : List A) where
@@ -33,6 +33,14 @@ module _ {A : Type 0} (w : ℕ) (f : A → ℕ) (l : List ℕ) (at : ℕ) (xs : 
       ∙ ap (λ (q : List A). put l at (bytes_of w f q))
       (ap (λ (y : A). take i xs ++ (y ∷ [])) q ∙ sym (take-suc xs i x h) ∙ ap (λ (n : ℕ). take n xs) (sym (add-one i)))
 
+-- numbers of one width, from an array of as many
+pub row_written : (w : ℕ) (l : List ℕ) (at : ℕ) (ns ws : List ℕ) → ws ≡ replicate (length ns) w → {out : List ℕ} {i : ℕ} → length ns ≤ i
+    → out ≡ put l at (bytes_of w (λ n. n) (take i ns)) → out ≡ put l at (enc ws ns)
+row_written w l at ns ws same {out} {i} h k =
+    k
+    ∙ ap (λ (q : List ℕ). put l at (bytes_of w (λ n. n) q)) (take_all i ns h)
+    ∙ ap (put l at) (sym (enc_same w ns) ∙ ap (λ (q : List ℕ). enc q ns) (sym same))
+
 -- ---- reading
 -- the ith element's bytes from `at` on
 nth : (w : ℕ) (s : List ℕ) (at i : ℕ) → part s (at + w * i) w ≡ take w (drop (w * i) (drop at s))
@@ -52,6 +60,26 @@ module _ {A : Type 0} (w : ℕ) (g : ℕ → A) (s : List ℕ) (at : ℕ) (xs : 
       ∙ ap (λ (z : A). y ++ (z ∷ []) ++ drop (suc i) xs) (e ∙ ap (λ (b : List ℕ). g (unle b)) (nth w s at i))
       ∙ ap (λ (r : List A). r ++ drop (suc i) xs) (sym (elements_of_add w g i 1 l))
       ∙ ap (λ (k : ℕ). elements_of w g (i + 1) l ++ drop k xs) (sym (add-one i))
+
+-- numbers of one width, into an array that held zeros
+module _ (w n : ℕ) (s : List ℕ) (at : ℕ) where
+  pub row_none : replicate n 0 ≡ elements_of w (λ k. k) 0 (drop at s) ++ replicate n 0
+  unfolding elements_of
+  row_none = refl
+
+  pub row_more : (i : ℕ) {new : List ℕ} {v : ℕ} → i < n → new ≡ elements_of w (λ k. k) i (drop at s) ++ drop i (replicate n 0) → v ≡ unle (part s (at + w * i) w)
+      → set new i v ≡ elements_of w (λ k. k) (i + 1) (drop at s) ++ drop (i + 1) (replicate n 0)
+  row_more i h k e = filled_more w (λ k. k) s at (replicate n 0) i (simp length-replicate h) k e
+
+  pub row_all : {i : ℕ} {new : List ℕ} → n ≡ i → new ≡ elements_of w (λ k. k) i (drop at s) ++ drop i (replicate n 0) → new ≡ nums (replicate n w) (drop at s)
+  row_all {i} e k =
+      let short : length (replicate n 0) ≤ n = simp length-replicate (omega arith) in
+      let none : drop n (replicate n 0) ≡ [] = drop_of_length-le (replicate n 0) short in
+      k
+      ∙ ap (λ (j : ℕ). elements_of w (λ k. k) j (drop at s) ++ drop j (replicate n 0)) (sym e)
+      ∙ ap (λ (r : List ℕ). elements_of w (λ k. k) n (drop at s) ++ r) none
+      ∙ append-nil (elements_of w (λ k. k) n (drop at s))
+      ∙ sym (nums_same w n (drop at s))
 
 -- ---- judging
 module _ (w : ℕ) (p : ℕ → Bool) (s : List ℕ) (at : ℕ) where

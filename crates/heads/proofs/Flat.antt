@@ -1,6 +1,5 @@
 -- A material's twenty numbers as the code lists them, and a record as the code makes it of its numbers. Assumes nothing.
-use Prim.Native.Nat.{ℕ, zero, suc, ◌<◌}
-use native.Mathlib.Nat.{not-suc-le-zero, le_of_suc-le-suc}
+use Prim.Native.Nat.{ℕ}
 use native.Mathlib.Omega.{arith}
 use mathlib.Core.Path.{◌≡◌, refl}
 use mathlib.Core.Bool.{Bool, true, false}
@@ -27,12 +26,6 @@ pole_long (Debye a b) = refl
 pub slot_long : (counted : Bool) (s : Pole) → length (slot_nums counted s) ≡ 4
 slot_long true s = pole_long s
 slot_long false s = refl
-
--- a place that is there, whatever stands past the end
-pub at_any : (l : List Pole) (i : ℕ) (s t : Pole) → i < length l → get_or l i s ≡ get_or l i t
-at_any [] i s t h = absurd (not-suc-le-zero h)
-at_any (x ∷ l) zero s t h = refl
-at_any (x ∷ l) (suc i) s t h = at_any l i s t (le_of_suc-le-suc h)
 
 pub head_is : (l : List ℕ) (ms : List DispersiveMaterial) (x y z t u : Float) (k : RegionKind) → x ≡ of_bits binary64 (get_or l 20 0) → y ≡ of_bits binary64 (get_or l 21 0) →
     z ≡ of_bits binary64 (get_or l 22 0) → t ≡ of_bits binary64 (get_or l 23 0) → k ≡ kind_of (get_or l 13 0) → u ≡ of_bits binary64 (get_or l 24 0) →

@@ -8,7 +8,7 @@ use mathlib.Core.List.{List, [], ◌∷◌}
 use mathlib.Core.Logic.{◌⊎◌, inl, inr, ⊎_elim}
 use borrow.Author.Tests.{lt-ltb, le-ltb, ltb-true, ltb-false, eqb-true, eqb-false}
 use lib.Dec.{ltb, eqb}
-use lib.ListN.{length, get_or, drop, set, replicate, get_or-replicate}
+use lib.ListN.{length, get_or, drop, set}
 use lib.Seq.{drop-drop, get_or-set_same, get_or-set_other, ext_get_or}
 use Rattle.dispersion.specs.declared.DispersiveMaterial.{DispersiveMaterial}
 use Rattle.dispersion.specs.Material.{vacuum_material}
@@ -42,9 +42,6 @@ module _ (b : List ℕ) where
 
   abbrev Read : ℕ → List DispersiveMaterial → Type 0
   Read i t = (j : ℕ) → j < 16 → get_or t j vacuum_material ≡ entry_material i b j
-
-  pub none_read : (v : DispersiveMaterial) → v ≡ vacuum_material → Read 0 (replicate 16 v)
-  none_read v e j h = get_or-replicate 16 j v vacuum_material h ∙ e ∙ sym (ap (by j) (le-ltb j 0 (omega arith)))
 
   pub one_read : (i : ℕ) (t : List DispersiveMaterial) (v : DispersiveMaterial) → length t ≡ 16 → i < 16 → Read i t → v ≡ ml_of (entry_at b i) → Read (i + 1) (set t i v)
   one_read i t v long h read e j l = ⊎_elim (λ same. here same) (λ apart. there apart) (eq_or_ne j i)

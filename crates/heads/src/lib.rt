@@ -17,6 +17,8 @@ pub const OLD_LENGTH: usize = 73;
 
 pub const ML_LENGTH: usize = 125;
 
+// kept: no From and no TryFrom, here and at the poles below. Both types are of crates below, each number has a kind (`kind_of`), and a call of `into` is one that
+// the test on the source cannot follow (docs/DECISIONS.md, D-52).
 pub fn kind_num(k: RegionKind) -> u64
     ensures { result ≡ kind_num k }
 {
@@ -31,16 +33,12 @@ pub fn kind_num(k: RegionKind) -> u64
 fn kind_of(n: u64) -> RegionKind
     ensures { result ≡ kind_of n }
 {
-    if n == 0 {
-        return RegionKind::Absent;
+    match n {
+        0 => RegionKind::Absent,
+        1 => RegionKind::SlabZ,
+        2 => RegionKind::InjectorZ,
+        _ => RegionKind::BoxRegion,
     }
-    if n == 1 {
-        return RegionKind::SlabZ;
-    }
-    if n == 2 {
-        return RegionKind::InjectorZ;
-    }
-    RegionKind::BoxRegion
 }
 
 // A place's tag and three numbers.
@@ -80,22 +78,20 @@ pub fn slot_nums(counted: bool, p: Pole) -> [u64; 4]
 pub fn pole_of(tag: u64, x: f64, y: f64, z: f64) -> Pole
     ensures { result ≡ pole_of tag x y z }
 {
-    if tag == 1 {
-        return Pole::Lorentz {
+    match tag {
+        1 => Pole::Lorentz {
             delta_eps: x,
             omega0: y,
             gamma: z,
-        };
-    }
-    if tag == 2 {
-        return Pole::Drude {
+        },
+        2 => Pole::Drude {
             omega_p: x,
             gamma: y,
-        };
-    }
-    Pole::Debye {
-        delta_eps: x,
-        tau: y,
+        },
+        _ => Pole::Debye {
+            delta_eps: x,
+            tau: y,
+        },
     }
 }
 
@@ -125,23 +121,17 @@ pub fn ml_of(n: [u64; 20]) -> DispersiveMaterial
     }
 }
 
-fn flag(b: bool) -> u64
-    ensures { result ≡ flag_num b }
-{
-    if b { 1 } else { 0 }
-}
-
 pub fn flag_nums(periodic: [bool; 3], active: [bool; 3], on: bool) -> [u64; 7]
     ensures { result ≡ flag_nums periodic active on }
 {
     [
-        flag(periodic[0]),
-        flag(periodic[1]),
-        flag(periodic[2]),
-        flag(active[0]),
-        flag(active[1]),
-        flag(active[2]),
-        flag(on),
+        periodic[0] as u64,
+        periodic[1] as u64,
+        periodic[2] as u64,
+        active[0] as u64,
+        active[1] as u64,
+        active[2] as u64,
+        on as u64,
     ]
 }
 

@@ -20,7 +20,8 @@ use Rattle.grid.specs.Canon.{canon_region}
 use Rattle.heads.specs.Numbers.{kind_num, flag_nums, float_nums, gh_length, gh_nums, front_widths, slot_widths, ml_length, slot_nums, ml_nums}
 use Rattle.heads.specs.Payloads.{head_bytes, material_bytes}
 use Rattle.heads.specs.Inner.Parts.{size_widths, flag_widths, count_widths, corner_widths, float_widths, plan_widths, scale_widths}
-use Rattle.heads.proofs.Flat.{slot_long, at_any}
+use Rattle.heads.proofs.Flat.{slot_long}
+use Rattle.std.proofs.lemmas.List.{get_or_default}
 
 -- ---- GH
 abbrev corners : Region → List ℕ
@@ -66,7 +67,7 @@ module _ (m : DispersiveMaterial) (e : Pole) (long : length m.poles ≡ 4) where
   numbers i = slot_nums (ltb i m.pole_count) (get_or m.poles i blank_slot)
 
   there : (i : ℕ) (a : List ℕ) → i < 4 → a ≡ slot_nums (ltb i m.pole_count) (get_or m.poles i e) → a ≡ numbers i
-  there i a h p = p ∙ ap (slot_nums (ltb i m.pole_count)) (at_any m.poles i e blank_slot (omega (arith, long, h)))
+  there i a h p = p ∙ ap (slot_nums (ltb i m.pole_count)) (get_or_default m.poles i e blank_slot (omega (arith, long, h)))
 
   abbrev front : List ℕ
   front = bits m.eps_inf ∷ bits m.sigma ∷ bits m.mu_r ∷ m.pole_count ∷ []

@@ -14,19 +14,19 @@ use grid::{Clock, Record, Region};
 use heads::{flag_nums, float_nums, kept_region, kind_num, slot_nums};
 use root::Spacings;
 
+// The lowest byte of a number, and the lowest two: a record's numbers are wider in the code than in a save.
 fn put_byte(out: &mut [u8], at: usize, n: u64)
     requires { at + 1 ≤ length out.old }
     ensures { out.new ≡ put out.old at (le 1 n) }
 {
-    out[at] = (n % 256) as u8;
+    numbers::put_u8(out, at, (n % 0x100) as u8);
 }
 
 fn put_two(out: &mut [u8], at: usize, n: u64)
     requires { at + 2 ≤ length out.old }
     ensures { out.new ≡ put out.old at (le 2 n) }
 {
-    put_byte(out, at, n % 256);
-    put_byte(out, at + 1, n / 256);
+    numbers::put_u16(out, at, (n % 0x10000) as u16);
 }
 
 fn put_three_twos(out: &mut [u8], at: usize, a: u64, b: u64, c: u64)
@@ -42,13 +42,9 @@ fn put_flags(out: &mut [u8], at: usize, n: [u64; 7])
     requires { at + 7 ≤ length out.old }
     ensures { out.new ≡ put out.old at (enc flag_widths n) }
 {
-    put_byte(out, at, n[0]);
-    put_byte(out, at + 1, n[1]);
-    put_byte(out, at + 2, n[2]);
-    put_byte(out, at + 3, n[3]);
-    put_byte(out, at + 4, n[4]);
-    put_byte(out, at + 5, n[5]);
-    put_byte(out, at + 6, n[6]);
+    for i in 0..7 {
+        put_byte(out, at + i, n[i]);
+    }
 }
 
 fn put_counts(out: &mut [u8], at: usize, a: u64, b: u64, c: u64, d: u64)
@@ -65,11 +61,9 @@ fn put_floats(out: &mut [u8], at: usize, n: [u64; 5])
     requires { at + 40 ≤ length out.old }
     ensures { out.new ≡ put out.old at (enc float_widths n) }
 {
-    numbers::put_u64(out, at, n[0]);
-    numbers::put_u64(out, at + 8, n[1]);
-    numbers::put_u64(out, at + 16, n[2]);
-    numbers::put_u64(out, at + 24, n[3]);
-    numbers::put_u64(out, at + 32, n[4]);
+    for i in 0..5 {
+        numbers::put_u64(out, at + 8 * i, n[i]);
+    }
 }
 
 // The 17 bytes before the corners.

@@ -14,11 +14,9 @@ pub fn get_materials(s: &[u8], at: usize, count: usize) -> [DispersiveMaterial; 
 {
     let vacuum = DispersiveMaterial::vacuum();
     let mut materials = [vacuum; 16];
-    let mut i = 0;
-    while i < count {
+    for i in 0..count {
         let n = get_ml(s, at + ML_LENGTH * i);
         materials[i] = ml_of(n);
-        i += 1;
     }
     materials
 }

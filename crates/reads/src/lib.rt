@@ -3,7 +3,7 @@
 
 pub mod entries;
 
-ghost use Rattle.std.specs.Prelude.{◌≡◌, [], ◌∷◌, ◌++◌, ◌+◌, ◌≤◌, length, drop};
+ghost use Rattle.std.specs.Prelude.{◌≡◌, [], ◌∷◌, ◌++◌, ◌+◌, ◌*◌, ◌≤◌, length, drop, replicate};
 ghost use Rattle.codec.specs.Lists.{part};
 ghost use Rattle.codec.specs.Bytes.{unle, nums};
 ghost use Rattle.heads.specs.Numbers.{old_widths, old_length, gh_length, front_widths, slot_widths, ml_length};
@@ -26,65 +26,38 @@ fn two_at(s: &[u8], at: usize) -> u64
     numbers::get_u16(s, at) as u64
 }
 
-fn sizes_at(s: &[u8], at: usize) -> [u64; 3]
-    requires { at + 6 ≤ length s.now }
-    ensures { result ≡ nums size_widths (drop at s.now) }
+// N numbers of one byte, of two and of eight bytes.
+fn bytes_at<const N: usize>(s: &[u8], at: usize) -> [u64; N]
+    requires { at + N ≤ length s.now }
+    ensures { result ≡ nums (replicate N 1) (drop at s.now) }
 {
-    [two_at(s, at), two_at(s, at + 2), two_at(s, at + 4)]
+    let mut n = [0; N];
+    for i in 0..N {
+        n[i] = byte_at(s, at + i);
+    }
+    n
 }
 
-fn flags_at(s: &[u8], at: usize) -> [u64; 7]
-    requires { at + 7 ≤ length s.now }
-    ensures { result ≡ nums flag_widths (drop at s.now) }
+fn twos_at<const N: usize>(s: &[u8], at: usize) -> [u64; N]
+    requires { at + 2 * N ≤ length s.now }
+    ensures { result ≡ nums (replicate N 2) (drop at s.now) }
 {
-    [
-        byte_at(s, at),
-        byte_at(s, at + 1),
-        byte_at(s, at + 2),
-        byte_at(s, at + 3),
-        byte_at(s, at + 4),
-        byte_at(s, at + 5),
-        byte_at(s, at + 6),
-    ]
+    let mut n = [0; N];
+    for i in 0..N {
+        n[i] = two_at(s, at + 2 * i);
+    }
+    n
 }
 
-fn counts_at(s: &[u8], at: usize) -> [u64; 4]
-    requires { at + 4 ≤ length s.now }
-    ensures { result ≡ nums count_widths (drop at s.now) }
+fn floats_at<const N: usize>(s: &[u8], at: usize) -> [u64; N]
+    requires { at + 8 * N ≤ length s.now }
+    ensures { result ≡ nums (replicate N 8) (drop at s.now) }
 {
-    [
-        byte_at(s, at),
-        byte_at(s, at + 1),
-        byte_at(s, at + 2),
-        byte_at(s, at + 3),
-    ]
-}
-
-fn corners_at(s: &[u8], at: usize) -> [u64; 6]
-    requires { at + 12 ≤ length s.now }
-    ensures { result ≡ nums corner_widths (drop at s.now) }
-{
-    [
-        two_at(s, at),
-        two_at(s, at + 2),
-        two_at(s, at + 4),
-        two_at(s, at + 6),
-        two_at(s, at + 8),
-        two_at(s, at + 10),
-    ]
-}
-
-fn floats_at(s: &[u8], at: usize) -> [u64; 5]
-    requires { at + 40 ≤ length s.now }
-    ensures { result ≡ nums float_widths (drop at s.now) }
-{
-    [
-        numbers::get_u64(s, at),
-        numbers::get_u64(s, at + 8),
-        numbers::get_u64(s, at + 16),
-        numbers::get_u64(s, at + 24),
-        numbers::get_u64(s, at + 32),
-    ]
+    let mut n = [0; N];
+    for i in 0..N {
+        n[i] = numbers::get_u64(s, at + 8 * i);
+    }
+    n
 }
 
 // GH's numbers up to the steps, and one more.
@@ -92,11 +65,11 @@ fn head_with(s: &[u8], at: usize, constants: u64) -> [u64; 27]
     requires { at + old_length ≤ length s.now }
     ensures { result ≡ nums old_widths (drop at s.now) ++ (constants ∷ []) }
 {
-    let n = sizes_at(s, at);
-    let f = flags_at(s, at + 6);
-    let c = counts_at(s, at + 13);
-    let g = corners_at(s, at + 17);
-    let x = floats_at(s, at + 29);
+    let n: [u64; 3] = twos_at(s, at);
+    let f: [u64; 7] = bytes_at(s, at + 6);
+    let c: [u64; 4] = bytes_at(s, at + 13);
+    let g: [u64; 6] = twos_at(s, at + 17);
+    let x: [u64; 5] = floats_at(s, at + 29);
     let steps = numbers::get_u32(s, at + 69) as u64;
     [
         n[0], n[1], n[2], f[0], f[1], f[2], f[3], f[4], f[5], f[6], c[0], c[1], c[2], c[3], g[0],

@@ -49,6 +49,7 @@ pub fn ml_fine(n: [u64; 20]) -> bool
     ml_shaped(n) & three_fine(n[0], n[1], n[2]) & poles
 }
 
+// kept: the places are spelled out, here and below: the calls of an iterator are ones that the test on the source cannot follow (docs/DECISIONS.md, D-52).
 fn flags_fine(n: [u64; 27]) -> bool
     ensures { result ≡ flags_fine n }
 {

@@ -15,7 +15,7 @@ use borrow.Author.Tests.{eqb-true, eqb-false}
 use Rattle.codec.specs.Lists.{every}
 use Rattle.root.specs.Rounded.{zero_f}
 use Rattle.root.specs.declared.Spacings.{Spacings}
-use Rattle.dispersion.specs.declared.PoleSlot.{PoleSlot}
+use Rattle.dispersion.specs.declared.Pole.{Pole}
 use Rattle.dispersion.specs.declared.DispersiveMaterial.{DispersiveMaterial}
 use Rattle.dispersion.specs.Material.{blank_slot, vacuum_material}
 use Rattle.grid.specs.declared.Region.{Region}
@@ -93,13 +93,13 @@ module _ (r : Record) (h : Held r) where
   }
 
 -- a material as a record keeps it
-keep_length : (n : ℕ) (d : PoleSlot) (l : List PoleSlot) → length (keep_first n d l) ≡ length l
+keep_length : (n : ℕ) (d : Pole) (l : List Pole) → length (keep_first n d l) ≡ length l
 unfolding keep_first
 keep_length n d [] = refl
 keep_length zero d (x ∷ l) = ap suc (keep_length zero d l)
 keep_length (suc n) d (x ∷ l) = ap suc (keep_length n d l)
 
-keep_each : (P : PoleSlot → Type 0) (d : PoleSlot) → P d → (n : ℕ) (l : List PoleSlot) → ((i : ℕ) → i < length l → P (get_or l i d)) → (i : ℕ) → P (get_or (keep_first n d l) i d)
+keep_each : (P : Pole → Type 0) (d : Pole) → P d → (n : ℕ) (l : List Pole) → ((i : ℕ) → i < length l → P (get_or l i d)) → (i : ℕ) → P (get_or (keep_first n d l) i d)
 unfolding keep_first
 keep_each P d p n [] h i = p
 keep_each P d p zero (x ∷ l) h zero = p
@@ -107,7 +107,7 @@ keep_each P d p zero (x ∷ l) h (suc i) = keep_each P d p zero l (λ j b. h (su
 keep_each P d p (suc n) (x ∷ l) h zero = h 0 (omega arith)
 keep_each P d p (suc n) (x ∷ l) h (suc i) = keep_each P d p n l (λ j b. h (suc j) (omega (arith, b))) i
 
-blank_held : T (pole_held blank_slot.pole)
+blank_held : T (pole_held blank_slot)
 blank_held = and_i (held zero_f) (held zero_f) (of_bits-fits binary64 0) (of_bits-fits binary64 0)
 
 material_held : (m : DispersiveMaterial) → MaterialHeld m → MaterialHeld (canon_material m)
@@ -118,7 +118,7 @@ material_held m h = record {
   mu = h.mu;
   four = keep_length m.pole_count blank_slot m.poles ∙ h.four;
   each = λ i b.
-      keep_each (λ (p : PoleSlot). T (pole_held p.pole)) blank_slot blank_held m.pole_count m.poles (λ j k. h.each j (omega (arith, k, h.four))) i;
+      keep_each (λ (p : Pole). T (pole_held p)) blank_slot blank_held m.pole_count m.poles (λ j k. h.each j (omega (arith, k, h.four))) i;
 }
 
 set_each : (P : DispersiveMaterial → Type 0) (l : List DispersiveMaterial) (n : ℕ) (m : DispersiveMaterial) → n < length l → P m
@@ -152,10 +152,10 @@ vacuum_held = record {
   loss = of_bits-fits binary64 0;
   mu = of_bits-fits binary64 0x3FF0000000000000;
   four = refl;
-  each = λ i b. same (λ (p : PoleSlot). T (pole_held p.pole)) blank_slot blank_held 4 i;
+  each = λ i b. same (λ (p : Pole). T (pole_held p)) blank_slot blank_held 4 i;
 }
   where
-    same : (P : PoleSlot → Type 0) (d : PoleSlot) → P d → (n i : ℕ) → P (get_or (replicate n d) i d)
+    same : (P : Pole → Type 0) (d : Pole) → P d → (n i : ℕ) → P (get_or (replicate n d) i d)
     same P d p zero i = p
     same P d p (suc n) zero = p
     same P d p (suc n) (suc i) = same P d p n i

@@ -1,9 +1,8 @@
 use Rattle.block.proofs.Turns.{zeros_more, zeros_all}
-use Rattle.std.proofs.Common.{rules}
 use Rattle.block.proofs.all_zero.Goals as goal
 
-pub loop-i-preserved : goal.loop-i-preserved
-loop-i-preserved c = (search rules, zeros_more c.args.s.now c.loop-i.i c.loop-i.zero c.loop-i.invariant.1 c.loop-i-test.true)
+pub loop-x-preserved : goal.loop-x-preserved
+loop-x-preserved c = zeros_more c.args.s.now c.loop-x.x-index c.loop-x.zero c.loop-x.invariant c.loop-x-test.true
 
 pub returns : goal.returns
-returns c = zeros_all c.args.s.now c.loop-i.i c.loop-i.zero c.loop-i.invariant.1 c.loop-i-test.false
+returns c = zeros_all c.args.s.now c.loop-x.x-index c.loop-x.zero c.loop-x.invariant c.loop-x-test.false

@@ -1,18 +1,26 @@
-use mathlib.Core.Path.{◌≡◌, refl, ap, ◌∙◌}
-use mathlib.Core.List.{List, [], ◌∷◌}
-use Prim.Native.Nat.{ℕ}
-use native.Mathlib.Omega.{arith}
-use lib.ListN.{length, get_or}
+use Rattle.std.proofs.Common.{◌≡◌, ◌+◌, ◌*◌, ◌<◌, length, get_or, replicate, refl, ap, ◌∙◌, arith}
 use Rattle.codec.specs.Lists.{put}
-use Rattle.codec.specs.Bytes.{enc, total}
-use Rattle.codec.proofs.Row.{put_row, listed_all}
+use Rattle.codec.specs.Bytes.{le}
+use Rattle.std.proofs.lemmas.List.{get_or_default}
+use Rattle.codec.proofs.Loops.{written_none, written_more, row_written}
 use Rattle.heads.specs.Inner.Parts.{flag_widths}
 use Rattle.payloads.proofs.put_flags.Goals as goal
 
+pub loop-i-init : goal.loop-i-init
+loop-i-init c = let a = c.args in written_none 1 (λ k. k) a.out.now a.at a.n
+
+pub loop-i-preserved : goal.loop-i-preserved
+loop-i-preserved c =
+    let a = c.args in
+    let l = c.loop-i in
+    let long : length a.n ≡ 7 = omega arith in
+    let inside : l.i < length a.n = omega arith in
+    let place : a.at + l.i ≡ a.at + 1 * l.i = omega arith in
+    written_more 1 (λ k. k) a.out.now a.at a.n l.i (get_or a.n l.i 0) (omega (arith, long, c.requires)) inside (get_or_default a.n l.i 0 _ inside) l.invariant (c.put_byte.ensures ∙ ap (λ p. put l.out p (le 1 (get_or a.n l.i 0))) place)
+
 pub returns : goal.returns
-unfolding total
 returns c =
     let a = c.args in
     let long : length a.n ≡ 7 = omega arith in
-    rw (c.put_byte-7.ensures, c.put_byte-6.ensures, c.put_byte-5.ensures, c.put_byte-4.ensures, c.put_byte-3.ensures, c.put_byte-2.ensures, c.put_byte.ensures)
-    (put_row a.out.now a.at 1 (get_or a.n 0 0) (1 ∷ 1 ∷ 1 ∷ 1 ∷ 1 ∷ 1 ∷ []) (get_or a.n 1 0 ∷ get_or a.n 2 0 ∷ get_or a.n 3 0 ∷ get_or a.n 4 0 ∷ get_or a.n 5 0 ∷ get_or a.n 6 0 ∷ []) refl c.requires ∙ ap (λ (l : List ℕ). put a.out.now a.at (enc flag_widths l)) (listed_all 7 a.n long))
+    let same : flag_widths ≡ replicate (length a.n) 1 = rw long refl in
+    row_written 1 a.out.now a.at a.n flag_widths same (omega arith) c.loop-i.invariant

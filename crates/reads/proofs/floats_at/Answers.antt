@@ -1,7 +1,15 @@
-use mathlib.Core.Path.{sym}
-use mathlib.Core.List.{[], ◌∷◌}
-use Rattle.codec.proofs.Row.{row_at}
+use Rattle.std.proofs.Common.{arith}
+use Rattle.codec.proofs.Loops.{row_none, row_more, row_all}
 use Rattle.reads.proofs.floats_at.Goals as goal
 
+pub loop-i-init : goal.loop-i-init
+loop-i-init g c = row_none 8 g.row.N c.args.s.now c.args.at
+
+pub loop-i-preserved : goal.loop-i-preserved
+loop-i-preserved g c =
+    let a = c.args in
+    let l = c.loop-i in
+    row_more 8 g.row.N a.s.now a.at l.i c.loop-i-test.true l.invariant c.get_u64.ensures
+
 pub returns : goal.returns
-returns c = let a = c.args in rw (c.get_u64-5.ensures, c.get_u64-4.ensures, c.get_u64-3.ensures, c.get_u64-2.ensures, c.get_u64.ensures) (sym (row_at 8 (8 ∷ 8 ∷ 8 ∷ 8 ∷ []) a.s.now a.at))
+returns g c = row_all 8 g.row.N c.args.s.now c.args.at (omega arith) c.loop-i.invariant

@@ -1,8 +1,7 @@
-use Rattle.std.proofs.Common.{◌≡◌}
-use Rattle.codec.specs.Lists.{put}
-use Rattle.cells.specs.Cells.{row}
+use Rattle.std.proofs.Common.{◌≡◌, ℕ, ◌<◌, length, get_or}
+use lib.Ieee.{nan}
 use Rattle.boundary.specs.Lossy.{wall_sigma}
 use Rattle.boundary.proofs.lossy.fill_wall.Given as goal
 
 abbrev pub invariant-loop-d : goal.invariant-loop-d
-invariant-loop-d l = l.walls ≡ put l.initial.walls l.at (row l.d (wall_sigma l.t l.a.order l.a.sigma_max))
+invariant-loop-d l = (length l.wall ≡ 512) × ((d : ℕ) → d < l.d → get_or l.wall d nan ≡ wall_sigma l.t l.a.order l.a.sigma_max d)

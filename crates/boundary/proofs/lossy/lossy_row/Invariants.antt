@@ -6,4 +6,4 @@ use Rattle.boundary.specs.Lossy.{strongest}
 use Rattle.boundary.proofs.lossy.lossy_row.Given as goal
 
 abbrev pub invariant-loop-i : goal.invariant-loop-i
-invariant-loop-i l = l.media ≡ put l.initial.media l.at (row l.i (λ q. strongest (get_or l.walls q nan) (get_or l.walls (l.nx - 1 - q) nan) l.y0 l.y1 l.z0 l.z1))
+invariant-loop-i l = l.media ≡ put l.initial.media l.at (row l.i (λ q. strongest (get_or l.x q nan) (get_or l.x (l.nx - 1 - q) nan) l.y0 l.y1 l.z0 l.z1))

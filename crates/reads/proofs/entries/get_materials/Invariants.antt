@@ -1,12 +1,7 @@
-use Prim.Native.Nat.{ℕ, ◌-◌, ◌≤◌, ◌<◌}
-use mathlib.Core.Path.{◌≡◌}
-use lib.ListN.{length, get_or, drop}
+use Rattle.std.proofs.Common.{◌≡◌, ℕ, ◌<◌, get_or, length, drop}
 use Rattle.dispersion.specs.Material.{vacuum_material}
 use Rattle.heads.specs.Payloads.{entry_material}
 use Rattle.reads.proofs.entries.get_materials.Given as goal
 
 abbrev pub invariant-loop-i : goal.invariant-loop-i
-invariant-loop-i l = (l.i ≤ l.count) × (length l.materials ≡ 16) × ((j : ℕ) → j < 16 → get_or l.materials j vacuum_material ≡ entry_material l.i (drop l.at l.s) j)
-
-abbrev pub decreases-loop-i : goal.decreases-loop-i
-decreases-loop-i l = l.count - l.i
+invariant-loop-i l = (length l.materials ≡ 16) × ((j : ℕ) → j < 16 → get_or l.materials j vacuum_material ≡ entry_material l.i (drop l.at l.s) j)

@@ -1,0 +1,7 @@
+use Rattle.std.proofs.Common.{◌≡◌, take}
+use Rattle.codec.specs.Lists.{put}
+use Rattle.codec.specs.Bytes.{bytes_of}
+use Rattle.payloads.proofs.put_flags.Given as goal
+
+abbrev pub invariant-loop-i : goal.invariant-loop-i
+invariant-loop-i l = l.out ≡ put l.initial.out l.at (bytes_of 1 (λ n. n) (take l.i l.n))

@@ -9,6 +9,7 @@ ghost use Rattle.calls.specs.Poles.{coeffs_call};
 
 use boundary::lossy;
 use calls::poles;
+use refusals::code_of;
 use root::Spacings;
 
 // ---- constants of vacuum
@@ -91,7 +92,7 @@ pub fn cichowiej_ade_coeffs(
 ) -> u32
     ensures { readout result out.new ≡ coeffs_call eps0 dt tag first second third out.old }
 {
-    poles::put_coeffs(tag, first, second, third, eps0, dt, out)
+    code_of(&poles::put_coeffs(tag, first, second, third, eps0, dt, out))
 }
 
 // ---- the lossy edge's conductivity

@@ -9,6 +9,8 @@ ghost use Rattle.study.specs.History.{doing};
 ghost use Rattle.study.specs.World.{step, run};
 ghost use Rattle.study.specs.Calls.{Silently};
 
+use refusals::code_of;
+
 pub fn cichowiej_step(
     b: &mut [u8],
     sample: f64,
@@ -25,9 +27,9 @@ pub fn cichowiej_step(
     ensures ids_after { sent result b.new (stores e.new h.new media.now psi_e.new psi_h.new tables.now poles.new aux.new ids.now) ≡ clock_on_block (λ r. step_call (eps_of r) (mu_of r) (light_of r) r sample (stores e.old h.old media.now psi_e.old psi_h.old tables.now poles.old aux.old ids.now)) b.old (stores e.old h.old media.now psi_e.old psi_h.old tables.now poles.old aux.old ids.now) }
     ensures honest { Silently b.old b.new (λ s. s ≡ stores e.old h.old media.now psi_e.old psi_h.old tables.now poles.old aux.old ids.now) (λ s. stores e.new h.new media.now psi_e.new psi_h.new tables.now poles.new aux.new ids.now) (doing (step sample)) result }
 {
-    on_block::steps::step(
+    code_of(&on_block::steps::step(
         b, sample, e, h, media, psi_e, psi_h, tables, poles, aux, ids,
-    )
+    ))
 }
 
 pub fn cichowiej_run(
@@ -46,7 +48,7 @@ pub fn cichowiej_run(
     ensures ids_after { sent result b.new (stores e.new h.new media.now psi_e.new psi_h.new tables.now poles.new aux.new ids.now) ≡ clock_on_block (λ r. run_call (eps_of r) (mu_of r) (light_of r) r samples.now (stores e.old h.old media.now psi_e.old psi_h.old tables.now poles.old aux.old ids.now)) b.old (stores e.old h.old media.now psi_e.old psi_h.old tables.now poles.old aux.old ids.now) }
     ensures honest { Silently b.old b.new (λ s. s ≡ stores e.old h.old media.now psi_e.old psi_h.old tables.now poles.old aux.old ids.now) (λ s. stores e.new h.new media.now psi_e.new psi_h.new tables.now poles.new aux.new ids.now) (doing (run samples.now)) result }
 {
-    on_block::steps::run(
+    code_of(&on_block::steps::run(
         b, samples, e, h, media, psi_e, psi_h, tables, poles, aux, ids,
-    )
+    ))
 }

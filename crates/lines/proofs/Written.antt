@@ -5,8 +5,8 @@ use native.Mathlib.Numerals.{add-one}
 use native.Mathlib.Omega.{arith}
 use mathlib.Core.Path.{◌≡◌, refl, sym, ap, ◌∙◌, subst}
 use mathlib.Core.List.{List, [], ◌∷◌, ◌++◌}
-use lib.ListN.{length, get_or, take, set, length-append, length-set}
-use lib.Seq.{take-suc, take_all, length-take-le}
+use lib.ListN.{length, get_or, take, set, length-append}
+use lib.Seq.{take-suc, length-take-le}
 use Rattle.codec.specs.Lists.{put}
 use Rattle.codec.proofs.Lists.{put_nil, put_one, put_next, put_length}
 use Rattle.cells.specs.Cells.{joined}
@@ -68,28 +68,12 @@ wrote_number l k at p end n h r w =
     wrote_ended 11 l k at p end (p + 1) (decimal n) w.1 w.0 (omega (arith, ten_digits n h)) r refl
 
 -- ---- a word, letter by letter
-pub record Copied (l : List ℕ) (at : ℕ) (word new : List ℕ) (i : ℕ) : Type 0 where
-  pub within : i ≤ length word
-  pub size : length new ≡ length l
-  pub is : new ≡ put l at (take i word)
-
-pub copied_none : (l : List ℕ) (at : ℕ) (word : List ℕ) → Copied l at word l 0
-copied_none l at word = record { within = omega arith; size = refl; is = sym (put_nil l at) }
-
-pub copied_more : (l new : List ℕ) (at : ℕ) (word : List ℕ) (i : ℕ) → at + (length word + 1) ≤ length l → i < length word → Copied l at word new i →
-    Copied l at word (set new (at + i) (get_or word i 0)) (i + 1)
-copied_more l new at word i r h k =
+pub copied_more : (l new : List ℕ) (at : ℕ) (word : List ℕ) (i : ℕ) → at + (length word + 1) ≤ length l → i < length word → new ≡ put l at (take i word) →
+    set new (at + i) (get_or word i 0) ≡ put l at (take (i + 1) word)
+copied_more l new at word i r h e =
     let long : length (take i word) ≡ i = length-take-le i word (omega arith) in
-    record {
-      within = omega arith;
-      size = length-set new (at + i) (get_or word i 0) ∙ k.size;
-      is =
-          one_more l new at (at + i) (get_or word i 0) (take i word) k.is (omega arith) (omega arith)
-          ∙ ap (put l at) (sym (take-suc word i 0 h) ∙ ap (λ (j : ℕ). take j word) (sym (add-one i)));
-    }
-
-pub copied_all : (l new : List ℕ) (at : ℕ) (word : List ℕ) (i : ℕ) → length word ≤ i → Copied l at word new i → new ≡ put l at word
-copied_all l new at word i h k = k.is ∙ ap (put l at) (take_all i word h)
+    one_more l new at (at + i) (get_or word i 0) (take i word) e (omega arith) (omega arith)
+    ∙ ap (put l at) (sym (take-suc word i 0 h) ∙ ap (λ (j : ℕ). take j word) (sym (add-one i)))
 
 -- ---- one text after another
 pub wrote_then : (a b : ℕ) (l k o : List ℕ) (at p q : ℕ) (s t : List ℕ) → TextPut a l at s k p → TextPut b k p t o q → TextPut (a + b) l at (s ++ t) o q
@@ -115,27 +99,16 @@ wrote_wider a b l o at q t h w = record { is = w.is; ends = w.ends; short = omeg
 pub turn_fits : (m n i : ℕ) → i < n → m * i + m ≤ m * n
 turn_fits m n i h = omega (arith, mul-suc m i, mul-le-mul_left m h)
 
-pub record Turned (m : ℕ) (l : List ℕ) (at n : ℕ) (g : ℕ → List ℕ) (new : List ℕ) (p i : ℕ) : Type 0 where
-  pub within : i ≤ n
-  pub size : length new ≡ length l
-  pub wrote : TextPut (m * i) l at (joined i g) new p
-
-pub turned_none : (m : ℕ) (l : List ℕ) (at n : ℕ) (g : ℕ → List ℕ) → at ≤ length l → Turned m l at n g l at 0
+pub turned_none : (m : ℕ) (l : List ℕ) (at : ℕ) (g : ℕ → List ℕ) → at ≤ length l → TextPut (m * 0) l at (joined 0 g) l at
 unfolding joined
-turned_none m l at n g h =
-    record { within = omega arith; size = refl; wrote = record { is = sym (put_nil l at); ends = omega arith; short = omega arith; room = h } }
+turned_none m l at g h = record { is = sym (put_nil l at); ends = omega arith; short = omega arith; room = h }
 
-pub turned_more : (m : ℕ) (l k o : List ℕ) (at n p q i : ℕ) (g : ℕ → List ℕ) → i < n → Turned m l at n g k p i → TextPut m k p (g i) o q → length o ≡ length k →
-    Turned m l at n g o q (i + 1)
+pub turned_more : (m : ℕ) (l k o : List ℕ) (at p q i : ℕ) (g : ℕ → List ℕ) → TextPut (m * i) l at (joined i g) k p → TextPut m k p (g i) o q → TextPut (m * (i + 1)) l at (joined (i + 1) g) o q
 unfolding joined
-turned_more m l k o at n p q i g h v w e =
+turned_more m l k o at p q i g v w =
     let most : m * i + m ≡ m * (i + 1) = rw add-one (sym (mul-suc m i)) in
     let more : joined i g ++ g i ≡ joined (i + 1) g = rw add-one refl in
-    record {
-      within = omega arith;
-      size = e ∙ v.size;
-      wrote = subst (λ (t : List ℕ). TextPut (m * (i + 1)) l at t o q) more (subst (λ (a : ℕ). TextPut a l at (joined i g ++ g i) o q) most (wrote_then (m * i) m l k o at p q (joined i g) (g i) v.wrote w));
-    }
+    subst (λ (t : List ℕ). TextPut (m * (i + 1)) l at t o q) more (subst (λ (a : ℕ). TextPut a l at (joined i g ++ g i) o q) most (wrote_then (m * i) m l k o at p q (joined i g) (g i) v w))
 
-pub turned_all : (m : ℕ) (l k : List ℕ) (at n p i : ℕ) (g : ℕ → List ℕ) → n ≤ i → Turned m l at n g k p i → TextPut (m * n) l at (joined n g) k p
-turned_all m l k at n p i g h v = let e : i ≡ n = omega (arith, v.within) in subst (λ (j : ℕ). TextPut (m * j) l at (joined j g) k p) e v.wrote
+pub turned_all : (m : ℕ) (l k : List ℕ) (at n p i : ℕ) (g : ℕ → List ℕ) → n ≤ i → i ≤ n → TextPut (m * i) l at (joined i g) k p → TextPut (m * n) l at (joined n g) k p
+turned_all m l k at n p i g h h' v = let e : i ≡ n = omega arith in subst (λ (j : ℕ). TextPut (m * j) l at (joined j g) k p) e v

@@ -81,10 +81,8 @@ fn put_row(
     ensures { TextPut (135 * nx) out.old at (row_text b.now f nx j k m) out.new result }
 {
     let mut p = at;
-    let mut i = 0;
-    while i < nx {
+    for i in 0..nx {
         p = put_cell(out, p, b, f, i, j, k, m + i);
-        i += 1;
     }
     p
 }
@@ -104,10 +102,8 @@ fn put_plane(
     ensures { TextPut (135 * nx * ny) out.old at (plane_text b.now f nx ny k m) out.new result }
 {
     let mut p = at;
-    let mut j = 0;
-    while j < ny {
+    for j in 0..ny {
         p = put_row(out, p, b, f, nx, j, k, m + nx * j);
-        j += 1;
     }
     p
 }
@@ -125,10 +121,8 @@ pub fn put_grid(
     ensures { TextPut (135 * nx * ny * nz) out.old at (grid_text b.now f nx ny nz) out.new result }
 {
     let mut p = at;
-    let mut k = 0;
-    while k < nz {
+    for k in 0..nz {
         p = put_plane(out, p, b, f, nx, ny, k, nx * ny * k);
-        k += 1;
     }
     p
 }

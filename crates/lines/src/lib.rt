@@ -4,7 +4,8 @@
 mod fields;
 mod text;
 
-ghost use Rattle.std.specs.Prelude.{◌≡◌, ◌≤◌, length};
+ghost use Rattle.std.specs.Prelude.{◌≡◌, ◌≤◌, length, IfOk};
+ghost use Rattle.refusals.specs.Refusals.{number, code};
 ghost use Rattle.codec.specs.Lists.{put};
 ghost use Rattle.grid.specs.Inner.Sound.{Sound};
 ghost use Rattle.format.specs.Rewind.{read_record, read_stores};
@@ -12,7 +13,8 @@ ghost use Rattle.lines.specs.Listing.{fits_listing, list_fault, head_line, study
 ghost use Rattle.lines.specs.Inner.Places.{TextPut, sizes_text, fields_of};
 
 use fields::Fields;
-use grid::{Record, fault, stores};
+use grid::Record;
+use refusals::{Refusal, require};
 use saves::gets;
 
 pub const MOST_BYTES: usize = 24576;
@@ -24,6 +26,7 @@ pub const MOST_SLOTS: usize = 1;
 // 77 bytes for the head's line and 135 for each of 64 cells.
 pub const ROOM: usize = 8717;
 
+#[tactic(auto, unfolding(crate::specs::Listing::fits_listing))]
 fn fits_listing(r: Record) -> bool
     requires { Sound r }
     ensures { result ≡ fits_listing r }
@@ -31,27 +34,25 @@ fn fits_listing(r: Record) -> bool
     (r.nx * r.ny * r.nz <= MOST_CELLS) & (r.pole_slots <= MOST_SLOTS)
 }
 
-// The first fault, 0 where the save is listed.
-fn list_fault(b: &[u8]) -> u32
-    ensures { result ≡ list_fault b.now }
+// The study of a save that is listed, or the first fault.
+#[tactic(auto, unfolding(crate::specs::Listing::list_fault), using(grid::proofs::Settled::own_fault, grid::proofs::Settled::later_fault))]
+fn listed(b: &[u8]) -> Result<Record, Refusal>
+    ensures fault { code result ≡ list_fault b.now }
+    ensures study { IfOk result (λ r. (r ≡ read_record b.now) × (list_fault b.now ≡ 0)) }
 {
-    if MOST_BYTES < b.len() {
-        return stores::BAD_STORE;
-    }
-    let f = judge::bytes_fault(b);
-    if f != 0 {
-        return f;
-    }
+    require(b.len() <= MOST_BYTES, Refusal::BadStore)?;
+    judge::bytes_fault(b)?;
     let r = gets::get_record(b);
-    fault::first_fault(fits_listing(r), stores::BAD_STORE, 0)
+    require(fits_listing(r), Refusal::BadStore)?;
+    Ok(r)
 }
 
-fn put_refusal(out: &mut [u8], f: u32) -> usize
+fn put_refusal(out: &mut [u8], f: Refusal) -> usize
     requires { 19 ≤ length out.old }
-    ensures { TextPut 19 out.old 0 (refused_line f) out.new result }
+    ensures { TextPut 19 out.old 0 (refused_line (number f)) out.new result }
 {
     let p = text::put_word(out, 0, b"refused", text::BLANK);
-    text::put_number(out, p, f, text::NEWLINE)
+    text::put_number(out, p, u32::from(f), text::NEWLINE)
 }
 
 fn put_sizes(out: &mut [u8], nx: u32, ny: u32, nz: u32) -> usize
@@ -88,11 +89,10 @@ fn fields_of(from: usize, r: Record) -> Fields
     }
 }
 
-fn put_study(out: &mut [u8], b: &[u8]) -> usize
-    requires { (list_fault b.now ≡ 0) × (8717 ≤ length out.old) }
+fn put_study(out: &mut [u8], b: &[u8], r: Record) -> usize
+    requires { (list_fault b.now ≡ 0) × (r ≡ read_record b.now) × (8717 ≤ length out.old) }
     ensures { TextPut 8717 out.old 0 (study_lines (read_record b.now) (read_stores b.now)) out.new result }
 {
-    let r = gets::get_record(b);
     let from = gets::stores_from(b, r.material_count);
     let f = fields_of(from, r);
     let p = put_head(
@@ -111,9 +111,8 @@ pub fn list(b: &[u8], out: &mut [u8]) -> usize
     requires { 8717 ≤ length out.old }
     ensures { (result ≡ length (listing b.now)) × (result ≤ 8717) × (out.new ≡ put out.old 0 (listing b.now)) }
 {
-    let f = list_fault(b);
-    if f != 0 {
-        return put_refusal(out, f);
+    match listed(b) {
+        Ok(r) => put_study(out, b, r),
+        Err(f) => put_refusal(out, f),
     }
-    put_study(out, b)
 }

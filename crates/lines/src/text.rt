@@ -67,10 +67,8 @@ pub fn put_word(out: &mut [u8], at: usize, word: &[u8], end: u8) -> usize
     ensures { TextPut (length word.now + 1) out.old at (ended end word.now) out.new result }
 {
     let n = word.len();
-    let mut i = 0;
-    while i < n {
+    for i in 0..n {
         out[at + i] = word[i];
-        i += 1;
     }
     out[at + n] = end;
     at + n + 1

@@ -24,7 +24,7 @@ use Rattle.cpml.specs.Absorber.{Absorbed, absorbed}
 use Rattle.block.specs.Block.{block_length, block_fine, block_record}
 use Rattle.format.specs.Rewind.{read_record, read_stores, bytes_fault, rewind_fault, rewind_call}
 use Rattle.calls.proofs.Kept.{kept_old}
-use Rattle.calls.specs.Blocks.{sent, block_after, passed, on_block, clock_after, clock_passed, clock_on_block, lent_block, open_on_block, rewind_on_block, answered, material_fault, material_of, add_bytes_fault, add_bytes_call, Told, told, telling, axis_bits, Named, named, naming}
+use Rattle.calls.specs.Blocks.{sent, block_after, passed, on_block, clock_after, clock_passed, clock_on_block, lent_block, open_on_block, rewind_on_block, answered, material_fault, material_of, add_bytes_fault, add_bytes_call, told, telling, axis_bits, named, naming}
 
 -- ---- the call
 module _ {A : Type 0} (f : Record → Outcome A) (b : List ℕ) (kept : A) where

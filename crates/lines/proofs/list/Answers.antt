@@ -1,9 +1,9 @@
-use native.Mathlib.Omega.{arith}
+use Rattle.std.proofs.Common.{arith}
 use Rattle.lines.proofs.Judged.{listed_refused, listed_study}
 use Rattle.lines.proofs.list.Goals as goal
 
-pub returns-then-f-ne0 : goal.returns-then-f-ne0
-returns-then-f-ne0 c = listed_refused _ _ _ _ _ 19 c.list_fault-f.ensures (omega arith) c.if-f-ne0.true c.put_refusal.ensures
+pub returns-in-Ok : goal.returns-in-Ok
+returns-in-Ok c = listed_study _ _ _ _ 8717 (omega arith) c.in-Ok.ensures.fault c.put_study.ensures
 
-pub returns : goal.returns
-returns c = listed_study _ _ _ _ _ 8717 c.list_fault-f.ensures (omega arith) c.if-f-ne0.false c.put_study.ensures
+pub returns-in-Err : goal.returns-in-Err
+returns-in-Err c = listed_refused _ _ _ _ 19 (omega arith) _ c.in-Err.ensures.fault c.put_refusal.ensures

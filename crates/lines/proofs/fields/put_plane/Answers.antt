@@ -5,7 +5,7 @@ use Rattle.lines.proofs.Written.{turned_none, turned_more, turned_all, turn_fits
 use Rattle.lines.proofs.fields.put_plane.Goals as goal
 
 pub loop-j-init : goal.loop-j-init
-loop-j-init c = turned_none _ _ _ _ _ (omega arith)
+loop-j-init c = turned_none (135 * c.args.nx) _ _ _ (omega arith)
 
 pub overflow_mul-nx : goal.overflow_mul-nx
 overflow_mul-nx c = let a = c.args in omega (arith, turn_fits a.nx a.ny c.loop-j.j c.loop-j-test.true, c.requires.4, c.requires.0.few)
@@ -23,12 +23,12 @@ put_row-p-requires c =
       omega (arith, h, c.requires.2),
       c.requires.3,
       omega (arith, turn_fits a.nx a.ny l.j h, c.requires.4),
-      omega (arith, turn_fits (135 * a.nx) a.ny l.j h, c.requires.5, l.invariant.wrote.short, l.invariant.size),
+      omega (arith, turn_fits (135 * a.nx) a.ny l.j h, c.requires.5, l.invariant.short, l.auto.out),
     )
 
 pub loop-j-preserved : goal.loop-j-preserved
-loop-j-preserved c = turned_more _ _ _ _ _ _ _ _ _ _ c.loop-j-test.true c.loop-j.invariant c.put_row-p.ensures c.put_row-p.auto.out
+loop-j-preserved c = turned_more _ _ _ _ _ _ _ _ _ c.loop-j.invariant c.put_row-p.ensures
 
 pub returns : goal.returns
 unfolding plane_text
-returns c = turned_all _ _ _ _ _ _ _ _ c.loop-j-test.false c.loop-j.invariant
+returns c = turned_all _ _ _ _ _ _ _ _ c.loop-j-test.false (omega arith) c.loop-j.invariant

@@ -17,7 +17,7 @@ use Rattle.grid.specs.Fault.{bad_study, first, fault_of}
 use Rattle.grid.specs.Stores.{Stores, Outcome, outcome, settle, or_else, lent_fault, lengths_of, store_lengths, same_lengths, fault_lent, fault_with}
 use Rattle.opening.specs.Opening.{open_record, open_stores, open_call}
 use Rattle.opening.specs.Layer.{Layer}
-use Rattle.materials.specs.Materials.{add_call, Placed, Filled, filled, put_box_call}
+use Rattle.materials.specs.Materials.{add_call, add_fault, Placed, Filled, filled, put_box_call}
 use Rattle.materials.specs.declared.Put.{Put}
 use Rattle.cells.specs.declared.IndexBox.{IndexBox}
 use Rattle.cpml.specs.Absorber.{Absorbed, absorbed}
@@ -63,10 +63,14 @@ module _ {A : Type 0} (f : Record → Outcome A) (b : List ℕ) (kept : A) where
   clock_well own fine {b'} {q} {n} {k} {s} en eo eb =
       rw (fine, en) (ap (λ (x : List ℕ). sent n x s) eb ∙ ap (λ (o : Outcome A). clock_passed o b) (eo ∙ ap f own))
 
--- ---- a material added, where neither the record nor its bytes are at fault
-pub add_well : (m : List ℕ) (r : Record) {d : DispersiveMaterial} {o : Outcome ℕ} → 0 ≡ fault_of r → 0 ≡ material_fault m → d ≡ material_of m → o ≡ add_call r d → o ≡ add_bytes_call m r
-unfolding add_bytes_call add_bytes_fault add_call
-add_well m r ef em ed e = e ∙ ap (add_call r) ed ∙ sym (rw (sym ef, sym em))
+-- ---- a material added whose bytes are not at fault: adding it finds the record's own fault
+or_twice : (n m : ℕ) → or_else n (or_else n m) ≡ or_else n m
+or_twice zero m = refl
+or_twice (suc n) m = refl
+
+pub add_well : (m : List ℕ) (r : Record) {d : DispersiveMaterial} {o : Outcome ℕ} → 0 ≡ material_fault m → d ≡ material_of m → o ≡ add_call r d → o ≡ add_bytes_call m r
+unfolding add_bytes_call add_bytes_fault add_call add_fault
+add_well m r em ed e = e ∙ ap (add_call r) ed ∙ sym (rw (sym em, or_twice))
 
 -- ---- opening and rewind: a block of another length, where f comes before the stores' lengths; a block of the right one, where f is the whole fault
 left_alone : {A : Type 0} (n : ℕ) (r : Record) (s : A) (b : List ℕ) → sent (suc n) b s ≡ passed (outcome (suc n) r s) b

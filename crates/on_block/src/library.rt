@@ -46,12 +46,17 @@ pub fn put_box(
     blocks::keep(b, Ok(r))
 }
 
+// The bytes are looked at first, so that the record is judged once; where they are at fault, its own fault comes before theirs.
 fn add_bytes(r: Record, material: &[u8]) -> Result<(Record, u32), Refusal>
     ensures { outcome (code result) (value_or (r, 0) result).0 (value_or (r, 0) result).1 ≡ add_bytes_call material.now r }
 {
-    fault::fault_of(r)?;
-    let m = blocks::get_material(material)?;
-    materials::add_material(r, m)
+    match blocks::get_material(material) {
+        Ok(m) => materials::add_material(r, m),
+        Err(bytes) => {
+            fault::fault_of(r)?;
+            Err(bytes)
+        }
+    }
 }
 
 // The material is 125 bytes as in a block; its id goes into the room lent for it.

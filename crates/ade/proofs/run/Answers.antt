@@ -8,9 +8,6 @@ loop-s-init c =
     let a = c.args in
     run_none a.k.now a.e.now a.w.n a.slots a.w.a a.w.z a.poles.now
 
-pub components-requires : goal.components-requires
-components-requires c = record { i_le_d = (omega arith, omega arith, omega arith, omega arith); by_index = λ b l. omega (arith, c.requires.poles_room.blocks b (omega arith), c.loop-s.invariant.same) }
-
 pub loop-s-preserved : goal.loop-s-preserved
 loop-s-preserved c =
     let l = c.loop-s in

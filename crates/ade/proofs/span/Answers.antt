@@ -1,13 +1,7 @@
 use Rattle.std.proofs.Common.{◌≡◌, ℕ, subst, arith}
-use Rattle.ade.proofs.Columns.{changed_none, span_more}
+use Rattle.ade.proofs.Columns.{span_more}
 use Rattle.ade.specs.Inner.Runs.{Changed, by_span}
 use Rattle.ade.proofs.span.Goals as goal
-
-pub loop-m-init : goal.loop-m-init
-loop-m-init c = changed_none _ _ _ _
-
-pub turn-requires : goal.turn-requires
-turn-requires c = let s = c.loop-m.invariant.same in (omega arith, omega arith, omega arith)
 
 pub loop-m-preserved : goal.loop-m-preserved
 loop-m-preserved c =

@@ -1,15 +1,6 @@
-use Rattle.std.proofs.Common.{◌≡◌, ℕ, ◌∙◌, refl, subst, arith, length-set, rules}
-use Rattle.ade.proofs.Tables.{listed_more}
+use Rattle.std.proofs.Common.{◌≡◌, ℕ, refl, subst, arith}
 use Rattle.ade.specs.Inner.Runs.{Listed}
 use Rattle.ade.proofs.stepped_of.Goals as goal
-
-pub loop-slot-init : goal.loop-slot-init
-loop-slot-init c = (search rules, record { each = λ slot h. absurd (omega arith) })
-
-pub loop-slot-preserved : goal.loop-slot-preserved
-loop-slot-preserved c =
-    let l = c.loop-slot in
-    (length-set l.coeffs _ _ ∙ l.invariant.0, listed_more _ _ _ _ _ _ (omega arith) l.invariant.1 c.coeffs_of.ensures)
 
 pub returns : goal.returns
 returns c =

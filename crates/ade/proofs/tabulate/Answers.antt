@@ -1,13 +1,7 @@
-use Rattle.std.proofs.Common.{◌≡◌, ℕ, ◌∙◌, subst, arith, length-set, rules}
+use Rattle.std.proofs.Common.{◌≡◌, ℕ, ◌∙◌, subst, arith, length-set}
 use Rattle.ade.proofs.Tables.{table_more}
 use Rattle.ade.specs.Inner.Runs.{Table}
 use Rattle.ade.proofs.tabulate.Goals as goal
-
-pub loop-i-init : goal.loop-i-init
-loop-i-init c = (search rules, record { each = λ i h. absurd (omega arith) })
-
-pub stepped_of-requires : goal.stepped_of-requires
-stepped_of-requires c = c.requires.by_index c.loop-i.i (omega arith)
 
 pub loop-i-preserved : goal.loop-i-preserved
 loop-i-preserved c =

@@ -1,6 +1,4 @@
-use Rattle.cells.specs.Reading.{block_end}
 use Rattle.cells.proofs.Sweeps.{sweep_none, sweep_more}
-use Rattle.corrections.proofs.Faced.{fits_kept}
 use Rattle.corrections.proofs.Adding.{plane_keeps}
 use Rattle.cells.specs.Inner.Blocks.{on, in_blocks}
 use Rattle.corrections.specs.Inner.Faces.{add_plane, add_box, addends}
@@ -16,19 +14,6 @@ loop-k-init c =
     let a = c.args in
     let b = a.f.b in
     sweep_none (a.f.component * a.w.n) a.w.nz (a.w.ny * a.w.nx) b.k0 _ (plane_keeps a.w.nx a.w.ny b (addends a.w a.f a.media.now a.line.now)) a.s.now room
-
-pub overflow_add-at : goal.overflow_add-at
-overflow_add-at c =
-    let plane_in : let a = c.args in c.loop-k.k * (a.w.ny * a.w.nx) + a.w.ny * a.w.nx ≤ a.w.nz * (a.w.ny * a.w.nx) = let a = c.args in block_end c.loop-k.k a.w.nz (a.w.ny * a.w.nx) (omega arith) in
-    let room : c.args.f.component * c.args.w.n + c.args.w.nz * (c.args.w.ny * c.args.w.nx) ≤ length c.args.s.now = omega (arith, c.requires.0.count, c.requires.0.room) in
-    omega (arith, plane_in, room)
-
-pub add_plane-requires : goal.add_plane-requires
-add_plane-requires c =
-    let plane_in : let a = c.args in c.loop-k.k * (a.w.ny * a.w.nx) + a.w.ny * a.w.nx ≤ a.w.nz * (a.w.ny * a.w.nx) = let a = c.args in block_end c.loop-k.k a.w.nz (a.w.ny * a.w.nx) (omega arith) in
-    let room : c.args.f.component * c.args.w.n + c.args.w.nz * (c.args.w.ny * c.args.w.nx) ≤ length c.args.s.now = omega (arith, c.requires.0.count, c.requires.0.room) in
-    let l = c.loop-k in
-    (fits_kept c.args.s.now l.s (omega arith) c.requires.0, omega (arith, plane_in, c.requires.0.count), omega (arith, plane_in, room))
 
 pub loop-k-preserved : goal.loop-k-preserved
 loop-k-preserved c =

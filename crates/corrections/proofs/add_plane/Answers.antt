@@ -1,11 +1,9 @@
-use Rattle.cells.specs.Reading.{block_end}
 use Rattle.cells.proofs.Sweeps.{sweep_none, sweep_more}
-use Rattle.corrections.proofs.Faced.{fits_kept}
 use Rattle.corrections.proofs.Adding.{row_keeps}
 use Rattle.cells.specs.Inner.Blocks.{on, in_blocks}
 use Rattle.corrections.specs.Inner.Faces.{add_row, add_plane, addend}
 use native.Mathlib.Omega.{arith}
-use Prim.Native.Nat.{◌+◌, ◌*◌, ◌≤◌}
+use Prim.Native.Nat.{◌+◌, ◌*◌}
 use mathlib.Core.Path.{◌≡◌, ap, ◌∙◌}
 use Rattle.corrections.proofs.add_plane.Goals as goal
 
@@ -14,12 +12,6 @@ loop-j-init c =
     let a = c.args in
     let b = a.f.b in
     sweep_none a.q a.w.ny a.w.nx b.j0 _ (row_keeps a.w.nx b.i0 b.i1 (λ i j. addend a.w a.f a.media.now a.x (a.p + j * a.w.nx + i))) a.s.now c.requires.2
-
-pub add_row-requires : goal.add_row-requires
-add_row-requires c =
-    let row_in : let a = c.args in c.loop-j.j * a.w.nx + a.w.nx ≤ a.w.ny * a.w.nx = let a = c.args in block_end c.loop-j.j a.w.ny a.w.nx (omega arith) in
-    let l = c.loop-j in
-    (fits_kept c.args.s.now l.s (omega arith) c.requires.0, omega (arith, row_in), omega (arith, row_in))
 
 pub loop-j-preserved : goal.loop-j-preserved
 loop-j-preserved c =

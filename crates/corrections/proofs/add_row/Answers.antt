@@ -23,7 +23,3 @@ returns c =
     let l = c.loop-i in
     let e : l.i ≡ a.f.b.i1 = omega arith in
     l.invariant ∙ ap (λ (k : ℕ). on a.q a.w.nx (add_row a.w.nx a.f.b.i0 k (λ i. addend a.w a.f a.media.now a.x (a.p + i))) a.s.now) e
-
-pub addend-requires : goal.addend-requires
-addend-requires c =
-    (c.requires.0.few, c.requires.0.stuff, omega arith)

@@ -1,54 +1,29 @@
-use Rattle.corrections.proofs.Faced.{low_of, asked, ex_lower_fit, ex_upper_fit, ez_lower_fit, ez_upper_fit, corrected_e_lem}
+use Rattle.corrections.proofs.Faced.{asked, ex_lower_fit, ex_upper_fit, ez_lower_fit, ez_upper_fit, corrected_e_lem}
 use native.Mathlib.Omega.{arith}
 use mathlib.Core.Bool.{false}
 use Rattle.grid.specs.Stores.{line_length}
 use mathlib.Core.Path.{refl, ◌∙◌}
 use Rattle.corrections.proofs.correct_e.Goals as goal
 
-pub overflow_mul-n : goal.overflow_mul-n
-overflow_mul-n c = omega (arith, c.requires.sound.plane)
-
-pub overflow_mul-n-2 : goal.overflow_mul-n-2
-overflow_mul-n-2 c = omega (arith, c.requires.sound.cells)
-
-pub overflow_add-w : goal.overflow_add-w
-overflow_add-w c = omega (arith, c.requires.sound.zs)
-
-pub ex_lower-requires : goal.ex_lower-requires
-ex_lower-requires c = low_of c.requires
-
 pub add_face-requires : goal.add_face-requires
 add_face-requires c =
     let a = c.args in
     asked false a.eps0 (line_length a.r.nz) a.r a.media.now a.line.now a.e.now _ _ _ c.requires refl (omega arith) c.ex_lower.ensures (ex_lower_fit a.r c.requires.corners)
-
-pub ex_upper-requires : goal.ex_upper-requires
-ex_upper-requires c = low_of c.requires
 
 pub add_face-requires-2 : goal.add_face-requires-2
 add_face-requires-2 c =
     let a = c.args in
     asked false a.eps0 (line_length a.r.nz) a.r a.media.now a.line.now a.e.now _ _ _ c.requires c.add_face.auto.s (omega arith) c.ex_upper.ensures (ex_upper_fit a.r c.requires.corners)
 
-pub ez_lower-requires : goal.ez_lower-requires
-ez_lower-requires c = low_of c.requires
-
 pub add_face-requires-3 : goal.add_face-requires-3
 add_face-requires-3 c =
     let a = c.args in
     asked false a.eps0 (line_length a.r.nz) a.r a.media.now a.line.now a.e.now _ _ _ c.requires (c.add_face-2.auto.s ∙ c.add_face.auto.s) (omega arith) c.ez_lower.ensures (ez_lower_fit a.r c.requires.corners)
 
-pub ez_upper-requires : goal.ez_upper-requires
-ez_upper-requires c = low_of c.requires
-
 pub add_face-requires-4 : goal.add_face-requires-4
 add_face-requires-4 c =
     let a = c.args in
     asked false a.eps0 (line_length a.r.nz) a.r a.media.now a.line.now a.e.now _ _ _ c.requires (c.add_face-3.auto.s ∙ c.add_face-2.auto.s ∙ c.add_face.auto.s) (omega arith) c.ez_upper.ensures (ez_upper_fit a.r c.requires.corners)
-
-pub shape_of-e : goal.shape_of-e
-shape_of-e c =
-    c.add_face-4.auto.s ∙ c.add_face-3.auto.s ∙ c.add_face-2.auto.s ∙ c.add_face.auto.s
 
 pub returns : goal.returns
 returns c =

@@ -1,50 +1,28 @@
-use Rattle.corrections.proofs.Faced.{low_of, asked, hy_lower_fit, hy_upper_fit, hz_lower_fit, hz_upper_fit, corrected_h_lem}
+use Rattle.corrections.proofs.Faced.{asked, hy_lower_fit, hy_upper_fit, hz_lower_fit, hz_upper_fit, corrected_h_lem}
 use native.Mathlib.Omega.{arith}
 use mathlib.Core.Bool.{true}
 use mathlib.Core.Path.{refl, ◌∙◌}
 use Rattle.corrections.proofs.correct_h.Goals as goal
-
-pub overflow_mul-n : goal.overflow_mul-n
-overflow_mul-n c = omega (arith, c.requires.sound.plane)
-
-pub overflow_mul-n-2 : goal.overflow_mul-n-2
-overflow_mul-n-2 c = omega (arith, c.requires.sound.cells)
-
-pub hy_lower-requires : goal.hy_lower-requires
-hy_lower-requires c = low_of c.requires
 
 pub add_face-requires : goal.add_face-requires
 add_face-requires c =
     let a = c.args in
     asked true a.mu0 0 a.r a.media.now a.line.now a.h.now _ _ _ c.requires refl (omega arith) c.hy_lower.ensures (hy_lower_fit a.r c.requires.corners)
 
-pub hy_upper-requires : goal.hy_upper-requires
-hy_upper-requires c = low_of c.requires
-
 pub add_face-requires-2 : goal.add_face-requires-2
 add_face-requires-2 c =
     let a = c.args in
     asked true a.mu0 0 a.r a.media.now a.line.now a.h.now _ _ _ c.requires c.add_face.auto.s (omega arith) c.hy_upper.ensures (hy_upper_fit a.r c.requires.corners)
-
-pub hz_lower-requires : goal.hz_lower-requires
-hz_lower-requires c = low_of c.requires
 
 pub add_face-requires-3 : goal.add_face-requires-3
 add_face-requires-3 c =
     let a = c.args in
     asked true a.mu0 0 a.r a.media.now a.line.now a.h.now _ _ _ c.requires (c.add_face-2.auto.s ∙ c.add_face.auto.s) (omega arith) c.hz_lower.ensures (hz_lower_fit a.r c.requires.corners)
 
-pub hz_upper-requires : goal.hz_upper-requires
-hz_upper-requires c = low_of c.requires
-
 pub add_face-requires-4 : goal.add_face-requires-4
 add_face-requires-4 c =
     let a = c.args in
     asked true a.mu0 0 a.r a.media.now a.line.now a.h.now _ _ _ c.requires (c.add_face-3.auto.s ∙ c.add_face-2.auto.s ∙ c.add_face.auto.s) (omega arith) c.hz_upper.ensures (hz_upper_fit a.r c.requires.corners)
-
-pub shape_of-h : goal.shape_of-h
-shape_of-h c =
-    c.add_face-4.auto.s ∙ c.add_face-3.auto.s ∙ c.add_face-2.auto.s ∙ c.add_face.auto.s
 
 pub returns : goal.returns
 returns c =

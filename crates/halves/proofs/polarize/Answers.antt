@@ -1,11 +1,5 @@
-use borrow.Author.Tests.{ne_eqb}
 use Rattle.halves.proofs.Parts.{moves, rests}
 use Rattle.halves.proofs.polarize.Goals as goal
-
-pub advance-requires : goal.advance-requires
-advance-requires c =
-    let p = c.requires in
-    record { sound = p.sound; fit = p.fit; known = p.known (ne_eqb _ 0 c.if-r-ne0.true); numbered = p.numbered; field = p.field; stored = p.stored }
 
 pub returns-then-r-ne0 : goal.returns-then-r-ne0
 returns-then-r-ne0 c = moves _ _ _ _ _ c.if-r-ne0.true c.advance.ensures

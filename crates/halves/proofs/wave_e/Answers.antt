@@ -2,11 +2,6 @@ use Rattle.grid.proofs.Tests.{unless, met}
 use Rattle.halves.proofs.Parts.{waves_e, still_e}
 use Rattle.halves.proofs.wave_e.Goals as goal
 
-pub correct_e-requires : goal.correct_e-requires
-correct_e-requires c =
-    let p = c.requires in
-    record { sound = p.sound; corners = p.corners (unless c.is_absent.ensures c.if-not-is_absent.true); stuff = p.stuff; wave = p.wave; field = p.field }
-
 pub returns-then-not-is_absent : goal.returns-then-not-is_absent
 returns-then-not-is_absent c = let whole = waves_e _ _ _ _ _ _ _ (unless c.is_absent.ensures c.if-not-is_absent.true) c.update_line_e.ensures c.correct_e.ensures in
     record { aux_after = whole.0; e_after = whole.1 }

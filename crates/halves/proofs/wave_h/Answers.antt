@@ -1,12 +1,6 @@
 use Rattle.grid.proofs.Tests.{unless, met}
 use Rattle.halves.proofs.Parts.{waves_h, still_h}
-use Rattle.std.proofs.Common.{rules}
 use Rattle.halves.proofs.wave_h.Goals as goal
-
-pub correct_h-requires : goal.correct_h-requires
-correct_h-requires c =
-    let p = c.requires in
-    record { sound = p.sound; corners = p.corners (unless c.is_absent.ensures c.if-not-is_absent.true); stuff = p.stuff; wave = search rules; field = p.field }
 
 pub returns-then-not-is_absent : goal.returns-then-not-is_absent
 returns-then-not-is_absent c = let whole = waves_h _ _ _ _ _ (unless c.is_absent.ensures c.if-not-is_absent.true) c.update_line_h.ensures c.correct_h.ensures in

@@ -1,18 +1,9 @@
-use Rattle.tfsf.proofs.Ends.{hy_span, span_none, h_more}
+use Rattle.tfsf.proofs.Ends.{hy_span}
 use Rattle.tfsf.specs.Inner.Spans.{Spanned}
 use mathlib.Core.Path.{◌≡◌, subst}
 use Prim.Native.Nat.{ℕ, ◌+◌, ◌-◌}
 use native.Mathlib.Omega.{arith}
 use Rattle.tfsf.proofs.line.move_h.Goals as goal
-
-pub loop-a-init : goal.loop-a-init
-loop-a-init c = let a = c.args in span_none (hy_span a.factor a.n a.line.now) a.n (a.n + 0) a.line.now (omega arith)
-
-pub loop-a-preserved : goal.loop-a-preserved
-loop-a-preserved c =
-    let a = c.args in
-    let l = c.loop-a in
-    h_more a.factor a.n a.line.now l.line c.requires l.a _ (omega arith) l.invariant c.leapfrog.ensures
 
 pub returns : goal.returns
 returns c =

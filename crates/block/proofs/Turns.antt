@@ -77,10 +77,6 @@ steps_small b e h =
     let small : get_or (head_of b) 25 0 < 256 ^ 4 = fit_at gh_widths (head_of b) 25 (nums_fit gh_widths b (omega (arith, gh_total, e)) bytes) (omega arith) in
     omega arith
 
--- a count past sixteen says no more than sixteen does
-pub all_of_them : (count i : ℕ) → 16 ≤ count → i < 16 → ltb i 16 ≡ ltb i count
-all_of_them count i h l = lt-ltb i 16 l ∙ sym (lt-ltb i count (omega arith))
-
 -- ---- written
 pub entry_put : (s t : List ℕ) (at : ℕ) (counted : Bool) (m : DispersiveMaterial) → counted ≡ true → t ≡ put s at (material_bytes m) →
     t ≡ put s at (cond counted (material_bytes m) (replicate ml_length 0))

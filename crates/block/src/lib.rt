@@ -97,6 +97,7 @@ fn put_zeros(b: &mut [u8], at: usize)
     }
 }
 
+// kept: the material of an entry that is not counted stands in the record too, so that an Option of it would be made of a flag and a material here.
 fn put_entry(b: &mut [u8], at: usize, counted: bool, m: DispersiveMaterial)
     requires { at + ml_length ≤ length b.old }
     ensures { b.new ≡ put b.old at (cond counted (material_bytes m) (replicate ml_length 0)) }

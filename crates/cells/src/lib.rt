@@ -5,6 +5,7 @@ ghost use Rattle.std.specs.Prelude.{◌≡◌, ◌+◌, ◌*◌, ◌≤◌, min,
 ghost use Rattle.cells.specs.Box.{box_cells};
 ghost use Rattle.cells.specs.Counted.{cut};
 ghost use Rattle.cells.specs.Inner.Blocks.{on, set_row, set_plane, set_box};
+
 // Cells by half-open ranges of indices: i0 up to i1, and so on.
 #[derive(Clone, Copy)]
 pub struct IndexBox {
@@ -16,6 +17,7 @@ pub struct IndexBox {
     pub k1: usize,
 }
 
+// kept: nx, ny and nz, and no struct of them: a record has them as fields of its own, and `set_box` and `cellwise` take them so.
 fn fill_row<T: Copy>(s: &mut [T], at: usize, nx: usize, i0: usize, i1: usize, v: T)
     requires { at + nx ≤ length s.old }
     ensures { s.new ≡ on at nx (set_row nx i0 i1 v) s.old }

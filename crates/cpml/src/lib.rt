@@ -22,6 +22,7 @@ pub enum Psi {
 }
 
 // Which store a memory lies in, and which of that store's six parts it is.
+// kept: `place_of` of specs/Memory.antt makes it.
 #[derive(Clone, Copy)]
 pub struct Place {
     pub electric: bool,

@@ -18,9 +18,9 @@ use Rattle.fdtd.specs.declared.turns.Run.{Run}
 use Rattle.fdtd.specs.Axes.{previous_of}
 use Rattle.fdtd.specs.Yee.{slope, derivative}
 use Rattle.fdtd.specs.Inner.Span.{Trio}
-use Rattle.fdtd.specs.Inner.Turns.{side_across, side_along, Lull}
+use Rattle.fdtd.specs.Inner.Turns.{side_across, side_along}
 use Rattle.cells.specs.Box.{within}
-use Rattle.electric.specs.Inner.Row.{behind_of, before_at, slope_of, OffWallRun}
+use Rattle.electric.specs.Inner.Row.{behind_of, before_at, slope_of}
 
 before_inner : (b : Bool) (own other i n : ℕ) → 1 ≤ i → cond b own (other + 1) + (i - 1) ≡ cond b (own + previous_of i n) (other + i)
 before_inner true own other i n h = rw (ne_eqb i 0 (λ e. omega arith))
@@ -117,12 +117,3 @@ end_case false n z p e h =
 pub end_fits : (b : Bool) (n z : ℕ) → z ≡ cond b n (cond (eqb n 1) 1 (n - 1)) → 1 ≤ n → (1 ≤ z) × (z ≤ n)
 end_fits true n z e h = (omega arith, omega arith)
 end_fits false n z e h = end_case (eqb n 1) n z refl e h
-
-pub ready_of : {w : Axis} {tab : List Float} {a z : ℕ} {run : Run} → Lull w tab a z run → a ≡ cond w.wraps 0 1
-    → z ≡ cond w.wraps w.n (cond (eqb w.n 1) 1 (w.n - 1)) → OffWallRun w tab run
-ready_of {w} {tab} {a} {z} {run} l ea ez =
-    record {
-      lull = subst (λ (x : ℕ). Lull w tab x run.end run) (sym l.starts) (subst (λ (x : ℕ). Lull w tab a x run) (sym l.ends) l);
-      starts = l.starts ∙ ea;
-      ends = l.ends ∙ ez;
-    }

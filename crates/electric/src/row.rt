@@ -137,7 +137,9 @@ fn fill_row(
     stores::fill(e, q + z, n - z, 0.0);
 }
 
-// One row of one component: n cells with the factors f, of which those from a up to z move.
+// One row of one component: n cells with the factors f, of which those from a up to z move. Put in place of its calls, which would copy both
+// sides for each row.
+#[inline(always)]
 pub fn row(
     e: &mut [f64],
     mem: &mut [f64],

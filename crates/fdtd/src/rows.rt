@@ -27,6 +27,7 @@ pub struct Differences {
 
 // A side on which a row's derivatives are taken. Its axis lies across the row, where the layer is k for each cell and the neighbours' numbers begin at
 // other; or along it, where the layer is taken from three tables of len numbers each, the first from tab on. From lo to hi the layer is quiet (c is 0).
+// kept: as an enum of the two kinds it would be told apart in each cell of the loops.
 #[derive(Clone, Copy)]
 pub struct Side {
     pub along: bool,
@@ -116,6 +117,7 @@ fn quiet(curl: &mut [f64], d: &[f64], tab: &[f64], a: usize, z: usize, second: b
 }
 
 // and where it may not be.
+// kept: two loops, since this one moves the memories on and reads three tables where the other reads one.
 fn live(
     curl: &mut [f64],
     mem: &mut [f64],

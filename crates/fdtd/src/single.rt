@@ -36,6 +36,7 @@ fn deriv_of(f: &[f64], d: f64, a: usize, lo: usize, hi: usize) -> f64
 }
 
 // The curl after one side's layer has joined it, if it is on, and the memory at p moved on. Where it is off the memory is not even read.
+// kept: `on` beside k, as `term` of specs/Yee.antt has them.
 fn join_layer(
     mem: &mut [f64],
     p: usize,

@@ -1,5 +1,5 @@
 -- The derivatives that the passes take are the row's: at a cell that is not the last, at the last, and across. Assumes nothing.
-use mathlib.Core.Path.{◌≡◌, refl, sym, ◌∙◌, ap, subst}
+use mathlib.Core.Path.{◌≡◌, refl, ◌∙◌, ap}
 use mathlib.Core.Bool.{Bool, true, false, cond, ◌&&◌, ◌||◌}
 use mathlib.Core.List.{List}
 use Prim.Native.Nat.{ℕ, ◌+◌, ◌-◌, ◌≤◌, ◌<◌}
@@ -15,8 +15,8 @@ use Rattle.fdtd.specs.declared.rows.Side.{Side}
 use Rattle.fdtd.specs.declared.turns.Run.{Run}
 use Rattle.fdtd.specs.Axes.{next_of}
 use Rattle.fdtd.specs.Yee.{slope, derivative}
-use Rattle.fdtd.specs.Inner.Turns.{side_across, side_along, Lull}
-use Rattle.magnetic.specs.Inner.Row.{ahead_of, next_at, slope_of, NextRun}
+use Rattle.fdtd.specs.Inner.Turns.{side_across, side_along}
+use Rattle.magnetic.specs.Inner.Row.{ahead_of, next_at, slope_of}
 
 next_ahead : (b : Bool) (own other i n : ℕ) → (b ≡ true → i + 1 < n) → cond b (own + 1) other + i ≡ cond b (own + next_of i n) (other + i)
 next_ahead true own other i n h = rw (lt-ltb (i + 1) n (h refl)) (omega arith)
@@ -97,6 +97,3 @@ reach_out false i n end e h l = rw (le-ltb (i + 1) n (omega arith))
 pub reach_le : (b : Bool) (n end : ℕ) → end ≡ cond b n (n - 1) → end ≤ n
 reach_le true n end e = omega arith
 reach_le false n end e = omega arith
-
-pub ready_of : {w : Axis} {tab : List Float} {z : ℕ} {run : Run} → Lull w tab 0 z run → z ≡ cond w.wraps w.n (w.n - 1) → NextRun w tab run
-ready_of {w} {tab} {z} {run} l e = record { lull = subst (λ (x : ℕ). Lull w tab 0 x run) (sym l.ends) l; ends = l.ends ∙ e }

@@ -67,7 +67,9 @@ fn fields(h: &mut [f64], f: &[f64], curl: &[f64], q: usize, m: usize)
     }
 }
 
-// One row of one component: n cells with the factors f, of which the first m have their neighbours.
+// One row of one component: n cells with the factors f, of which the first m have their neighbours. Put in place of its calls, which would
+// copy both sides for each row.
+#[inline(always)]
 pub fn row(
     h: &mut [f64],
     mem: &mut [f64],

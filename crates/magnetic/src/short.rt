@@ -97,6 +97,7 @@ fn cells_of_row(
 }
 
 // All rows.
+// kept: a sweep of its own, since a row here needs no scratch, no run and no factors.
 pub fn sweep_cells(
     h: &mut [f64],
     mem: &mut [f64],

@@ -27,6 +27,7 @@ fn two_at(s: &[u8], at: usize) -> u64
 }
 
 // N numbers of one byte, of two and of eight bytes.
+// kept: three functions and no trait, whose `T::get` the test on the source cannot follow (docs/DECISIONS.md, D-52).
 fn bytes_at<const N: usize>(s: &[u8], at: usize) -> [u64; N]
     requires { at + N ≤ length s.now }
     ensures { result ≡ nums (replicate N 1) (drop at s.now) }

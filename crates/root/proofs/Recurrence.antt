@@ -62,17 +62,3 @@ module _ (a q r w i q' r' : ℕ) (h : Taken a q r w i) (l : i < 54) where
 
   pub none_at : r * 4 + w / 2 ^ 52 < q * 4 + 1 → q' ≡ q * 2 → r' ≡ r * 4 + w / 2 ^ 52 → Taken a q' r' (w % 2 ^ 52 * 4) (i + 1)
   none_at t e f = rw (e, f) (none a q r w i h l t)
-
--- 4 ^ 54 is 2 ^ 54 twice: nothing is left to take, and what was taken is a * 2 ^ 54
-last : (a S w : ℕ) → w < 2 ^ 54 → a * 2 ^ 54 * 2 ^ 54 ≡ S * 2 ^ 54 + w → a * 2 ^ 54 ≡ S
-last a S w u h = omega arith
-
-next_square : (q : ℕ) → (q + 1) * (q + 1) ≡ q * q + (2 * q + 1)
-next_square q = simp (mul-add, add-mul, mul-one, one-mul) (omega arith)
-
-pub floor : (a q r w i : ℕ) → Taken a q r w i → 54 ≤ i → Floor (a * 2 ^ 54) q
-floor a q r w i h l =
-    let e : i ≡ 54 = omega (arith, h.upto) in
-    let f : a * 4 ^ i ≡ a * 2 ^ 54 * 2 ^ 54 = ap (λ (n : ℕ). a * 4 ^ n) e ∙ sym (mul_assoc a (2 ^ 54) (2 ^ 54)) in
-    let g : a * 2 ^ 54 ≡ q * q + r = last a (q * q + r) w h.rest (sym f ∙ h.same) in
-    record { low = omega (arith, g); high = omega (arith, g, h.left, next_square q) }

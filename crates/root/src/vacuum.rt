@@ -12,6 +12,7 @@ pub struct Vacuum {
     pub c0: f64,
 }
 
+// kept: a function with no argument for each constant of each set, as the C functions over them (docs/DECISIONS.md, D-53).
 pub fn eps0() -> f64
     ensures { result ≡ vacuum.eps0 }
 {
@@ -48,6 +49,7 @@ pub fn c0_2019() -> f64
     C0_2019
 }
 
+// kept: the field is a number, as the pole slots are (docs/DECISIONS.md, D-53).
 // The set that a record's field names: 0 the Rust's, any other that of 2019.
 pub fn chosen(constants: usize) -> Vacuum
     ensures { result ≡ vacuum.vacuum_of constants }

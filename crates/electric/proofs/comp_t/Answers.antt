@@ -10,9 +10,6 @@ use Rattle.electric.proofs.Edges.{fill_front}
 use Rattle.electric.proofs.Component.{idle, moved, barred_right, right_free, change_fits}
 use Rattle.electric.proofs.comp_t.Goals as goal
 
-pub fill-requires : goal.fill-requires
-fill-requires c = let pre = c.requires in let a = c.args in row_fits a.g.t.at a.p.q a.g.r.n a.g.count _ pre.fit.ht pre.n_bound.0
-
 pub row-requires : goal.row-requires
 row-requires c =
     let pre = c.requires in

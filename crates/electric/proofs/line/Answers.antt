@@ -1,25 +1,5 @@
-use Rattle.std.proofs.Common.{arith}
-use Rattle.fdtd.proofs.Lines.{fit_as}
 use Rattle.electric.proofs.Rowwise.{line_spot, spot_as}
 use Rattle.electric.proofs.line.Goals as goal
-
-pub comp_r-requires : goal.comp_r-requires
-comp_r-requires c =
-    let pre = c.requires in
-    let spot = c.find_spot-p.ensures in
-    record { fit = pre.fit; s_lt_n = (spot.ins, spot.int, pre.dp_room.r); n_bound = (spot.own, spot.ons, spot.ont) }
-
-pub comp_s-requires : goal.comp_s-requires
-comp_s-requires c =
-    let pre = c.requires in
-    let spot = c.find_spot-p.ensures in
-    record { fit = fit_as _ _ pre.fit (omega arith) (omega arith); s_lt_n = (spot.ins, spot.int, pre.dp_room.s); n_bound = (spot.own, spot.ons, spot.ont); off_wall_run = pre.off_wall_run }
-
-pub comp_t-requires : goal.comp_t-requires
-comp_t-requires c =
-    let pre = c.requires in
-    let spot = c.find_spot-p.ensures in
-    record { fit = fit_as _ _ pre.fit (omega arith) (omega arith); s_lt_n = (spot.ins, spot.int, pre.dp_room.t); n_bound = (spot.own, spot.ons, spot.ont); off_wall_run = pre.off_wall_run }
 
 pub returns : goal.returns
 returns c =

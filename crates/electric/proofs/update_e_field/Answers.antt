@@ -1,14 +1,8 @@
 use Rattle.fdtd.proofs.Fits.{count_for, fit_for}
-use Prim.Native.Nat.{◌*◌}
 use native.Mathlib.Omega.{arith}
-use Rattle.electric.proofs.Polarized.{dp_room, held_for}
+use Rattle.electric.proofs.Polarized.{held_for}
 use Rattle.electric.proofs.Steps.{electric_is, psi_is}
 use Rattle.electric.proofs.update_e_field.Goals as goal
-
-pub overflow_mul-w-4 : goal.overflow_mul-w-4
-overflow_mul-w-4 c =
-    let pre = c.requires in
-    let r = c.args.r in omega (arith, pre.sound, pre.poles_len, dp_room r.pole_slots (r.nx * r.ny * r.nz) _ pre.poles_len)
 
 pub step_along-requires : goal.step_along-requires
 step_along-requires c =

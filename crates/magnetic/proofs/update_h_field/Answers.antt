@@ -3,9 +3,6 @@ use native.Mathlib.Omega.{arith}
 use Rattle.magnetic.proofs.Steps.{magnetic_is, psi_is}
 use Rattle.magnetic.proofs.update_h_field.Goals as goal
 
-pub turn_of-g-requires : goal.turn_of-g-requires
-turn_of-g-requires c = record { sound = c.requires.sound; from_bound = omega arith }
-
 pub step_along-requires : goal.step_along-requires
 step_along-requires c =
     let turn-of = c.turn_of-g in
@@ -13,12 +10,6 @@ step_along-requires c =
     let pre = c.requires in
     let n = count_for a.r 3 _ turn-of.ensures in
     record { fit = fit_for a.r 3 (omega arith) pre.sound _ _ _ _ pre.e_len.0 pre.psi_h_len.1 pre.psi_h_len.0 pre.e_len.2 turn-of.ensures; count_in_bounds = omega (arith, n, pre.e_len.1) }
-
-pub shape_of-h : goal.shape_of-h
-shape_of-h c = c.step_along.auto.h
-
-pub shape_of-psi_h : goal.shape_of-psi_h
-shape_of-psi_h c = c.step_along.auto.mem
 
 pub returns : goal.returns
 returns c =

@@ -11,17 +11,6 @@ scale_up-n-requires c =
     let pattern : Read c.args.x (to_bits binary64 c.args.x) = read c.args.x (passes _ c.well_formed.0.1) c.requires in
     (pattern.field, omega arith, pattern.some)
 
-pub overflow_mul-n : goal.overflow_mul-n
-overflow_mul-n c = omega (arith, radicand_high _ _ _ c.scale_up-n.ensures)
-
-pub digits-q-requires : goal.digits-q-requires
-digits-q-requires c = omega (arith, radicand_high _ _ _ c.scale_up-n.ensures)
-
-pub overflow_add-result-2 : goal.overflow_add-result-2
-overflow_add-result-2 c =
-    let high : c.digits-q.result < 2 ^ 54 - 1 = root_high _ _ c.digits-q.ensures (radicand_high _ _ _ c.scale_up-n.ensures) in
-    omega (arith, high)
-
 pub float_from_bits-result : goal.float_from_bits-result
 float_from_bits-result c =
     let high : c.digits-q.result < 2 ^ 54 - 1 = root_high _ _ c.digits-q.ensures (radicand_high _ _ _ c.scale_up-n.ensures) in

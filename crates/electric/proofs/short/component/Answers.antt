@@ -4,16 +4,6 @@ use Rattle.fdtd.proofs.Singles.{lone_set}
 use Rattle.electric.proofs.Shorts.{moved_on, walled_off}
 use Rattle.electric.proofs.short.component.Goals as goal
 
-pub curl_along-curl-requires : goal.curl_along-curl-requires
-curl_along-curl-requires c =
-    let near = c.requires.near in
-    record { cell_lt_count = (near.own, near.ons, near.own, near.ont, near.own); count_in_bounds = (near.et, near.es, near.mr) }
-
-pub term_of-requires : goal.term_of-requires
-term_of-requires c =
-    let pre = c.requires in
-    (pre.none_value.0, omega (arith, pre))
-
 pub returns-then-moves : goal.returns-then-moves
 returns-then-moves c =
     let a = c.args in

@@ -2,11 +2,8 @@ use Rattle.std.proofs.Common.{◌+◌, refl, ap, arith}
 use native.Mathlib.Nat.{le_refl}
 use Rattle.cpml.specs.declared.Advanced.{Advanced}
 use Rattle.fdtd.proofs.Cellwise.{live_law, mem_law}
-use Rattle.fdtd.proofs.Spans.{span_start, span_step, first_step, span_end}
+use Rattle.fdtd.proofs.Spans.{span_step, first_step, span_end}
 use Rattle.fdtd.proofs.rows.live.Goals as goal
-
-pub loop-i-init : goal.loop-i-init
-loop-i-init c = (span_start _ _ _ _, span_start _ _ _ _)
 
 pub loop-i-preserved : goal.loop-i-preserved
 loop-i-preserved c =

@@ -1,9 +1,6 @@
 use Rattle.std.proofs.Common.{◌∙◌, arith}
-use Rattle.fdtd.proofs.Trios.{slope_from, trio_end, trio_start, trio_step}
+use Rattle.fdtd.proofs.Trios.{slope_from, trio_end, trio_step}
 use Rattle.fdtd.proofs.rows.pairs.Goals as goal
-
-pub loop-i-init : goal.loop-i-init
-loop-i-init c = trio_end _ _ _ _ (trio_start _ _ _ _) (omega arith)
 
 pub loop-i-preserved : goal.loop-i-preserved
 loop-i-preserved c =

@@ -1,9 +1,6 @@
 use Rattle.std.proofs.Common.{◌∙◌, arith}
-use Rattle.fdtd.proofs.Spans.{span_start, first_step, span_end}
+use Rattle.fdtd.proofs.Spans.{first_step, span_end}
 use Rattle.fdtd.proofs.rows.quiet.Goals as goal
-
-pub loop-i-init : goal.loop-i-init
-loop-i-init c = span_start _ _ _ _
 
 pub loop-i-preserved : goal.loop-i-preserved
 loop-i-preserved c =

@@ -11,9 +11,6 @@ differs true false h = refl
 differs false true h = refl
 differs false false h = cc
 
-pub loop-i-init : goal.loop-i-init
-loop-i-init c = λ k g h. absurd (omega arith)
-
 pub loop-i-preserved : goal.loop-i-preserved
 loop-i-preserved c =
     let l = c.loop-i in

@@ -3,11 +3,6 @@ use Rattle.fdtd.proofs.Singles.{lone_set}
 use Rattle.magnetic.proofs.Shorts.{moved_on, stood}
 use Rattle.magnetic.proofs.short.component.Goals as goal
 
-pub curl_along-curl-requires : goal.curl_along-curl-requires
-curl_along-curl-requires c =
-    let near = c.requires in
-    record { cell_lt_count = (near.own, near.own, near.ons, near.own, near.ont); count_in_bounds = (near.et, near.es, near.mr) }
-
 pub returns-then-moves : goal.returns-then-moves
 returns-then-moves c =
     let a = c.args in

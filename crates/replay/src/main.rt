@@ -14,24 +14,23 @@ mod input;
 mod output;
 mod study;
 
+use differ::Seen;
 use std::io;
 
 fn main(rt: HostRuntime) -> io::Result<()> {
-    let count = input::list_length(&rt);
-    let mut at = 0u32;
-    let mut numbers = 0u64;
-    let mut apart = 0u64;
-    let mut seen = 0u64;
-    while at < count {
-        at += 1u32;
-        let o = study::next(&rt);
-        output::say(&rt, at, o)?;
-        if !o.whole {
-            return Ok(());
-        }
-        numbers = numbers.saturating_add(o.numbers);
-        apart = apart.saturating_add(o.apart);
-        seen = seen.saturating_add(o.seen);
+    // A list without this number is one whose first study is missing.
+    let count = input::list_length(&rt).unwrap_or(1);
+    let mut all = Seen {
+        numbers: 0,
+        apart: 0,
+        seen: 0,
+    };
+    for at in 0..count {
+        let Some(o) = study::next(&rt) else {
+            return output::say_missing(&rt, at + 1);
+        };
+        output::say(&rt, at + 1, o)?;
+        all = differ::joined(all, o.seen);
     }
-    output::say_all(&rt, count, numbers, apart, seen)
+    output::say_all(&rt, count, all)
 }

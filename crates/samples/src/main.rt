@@ -3,18 +3,18 @@
 #![tactic(auto)]
 
 pub mod small;
+pub mod study;
 pub mod waves;
 
 ghost use Rattle.std.specs.Prelude.{◌≡◌, length};
 
 use boundary::LossyAbsorber;
 use codec::floats;
-use cpml::absorber::Absorbing;
 use cpml::{Psi, absorber, memory};
-use grid::Record;
-use root::Spacings;
+use refusals::Refusal;
 use std::io;
 use std::io::Write;
+use study::{Cells24, OneCell};
 
 fn say(rt: &HostRuntime, what: &[u8], holds: bool, changed: bool) -> io::Result<()> {
     rt.stdout().write_all(what)?;
@@ -30,215 +30,131 @@ fn say(rt: &HostRuntime, what: &[u8], holds: bool, changed: bool) -> io::Result<
     }
 }
 
-fn unit_spacings() -> Spacings {
-    Spacings {
-        dx: 1.0,
-        dy: 1.0,
-        dz: 1.0,
-        dt: 1.0,
-    }
-}
-
-// A study of one cell without pole slots.
-fn one_cell() -> Record {
-    let s = unit_spacings();
-    let standing = opening::open_record(0, 0, 0, 0, s, 0);
-    let mut e = [0.0; 3];
-    let mut h = [0.0; 3];
-    let mut media = [0.0; 3];
-    let mut psi_e = [0.0; 6];
-    let mut psi_h = [0.0; 6];
-    let mut tables = [0.0; 18];
-    let mut poles = [0.0; 3];
-    let mut aux = [0.0; 98];
-    let mut ids = [0u32; 1];
-    let o = opening::new_rect(
-        standing,
-        1,
-        1,
-        1,
-        0,
-        s,
-        0,
-        &mut e,
-        &mut h,
-        &mut media,
-        &mut psi_e,
-        &mut psi_h,
-        &mut tables,
-        &mut poles,
-        &mut aux,
-        &mut ids,
-    );
-    o.study
-}
-
-// A study of 24 cells along z.
-fn line() -> Record {
-    let s = unit_spacings();
-    let standing = opening::open_record(0, 0, 0, 0, s, 0);
-    let mut e = [0.0; 72];
-    let mut h = [0.0; 72];
-    let mut media = [0.0; 72];
-    let mut psi_e = [0.0; 144];
-    let mut psi_h = [0.0; 144];
-    let mut tables = [0.0; 156];
-    let mut poles = [0.0; 72];
-    let mut aux = [0.0; 144];
-    let mut ids = [0u32; 24];
-    let o = opening::new_rect(
-        standing,
-        1,
-        1,
-        24,
-        0,
-        s,
-        0,
-        &mut e,
-        &mut h,
-        &mut media,
-        &mut psi_e,
-        &mut psi_h,
-        &mut tables,
-        &mut poles,
-        &mut aux,
-        &mut ids,
-    );
-    o.study
-}
-
 // Equal in every bit, so that -0.0 is not 0.0.
 fn same(x: f64, y: f64) -> bool {
     floats::bits_of(x) == floats::bits_of(y)
 }
 
-// The layer asked for on all axes of the line.
-fn layer(r: Record, thickness: usize) -> Absorbing {
-    let axes = [true, true, true];
+// The axes that the layer is active on, where it is asked for on all of a line of 24 cells.
+fn active_axes(thickness: usize) -> Result<[bool; 3], Refusal> {
+    let mut line = Cells24::new();
+    let r = line.open(24)?;
     let given = [1.0; 156];
-    let mut psi_e = [1.5; 144];
-    let mut psi_h = [1.5; 144];
-    let mut tables = [1.5; 156];
-    absorber::set_boundary_cpml(
+    let q = absorber::set_boundary_cpml(
         r,
-        axes,
+        [true; 3],
         thickness,
         &given,
-        &mut psi_e,
-        &mut psi_h,
-        &mut tables,
-    )
+        &mut line.psi_e,
+        &mut line.psi_h,
+        &mut line.tables,
+    )?;
+    Ok(q.active)
 }
 
-// Whether it was accepted and is active on z, and on no other axis.
-fn active_on_z(r: Record, thickness: usize) -> bool {
-    let o = layer(r, thickness);
-    let active = o.active;
-    (o.refusal == 0) & !active[0] & !active[1] & active[2]
-}
-
-// Whether it was accepted and is active on no axis.
-fn inactive(r: Record, thickness: usize) -> bool {
-    let o = layer(r, thickness);
-    let active = o.active;
-    (o.refusal == 0) & !active[0] & !active[1] & !active[2]
+// Whether it was accepted and is active on z or not, and on no other axis.
+fn active_on_z(thickness: usize, stated: bool) -> bool {
+    match active_axes(thickness) {
+        Ok(axes) => !axes[0] & !axes[1] & (axes[2] == stated),
+        Err(_) => false,
+    }
 }
 
 fn cleared<'a>(which: Psi, psi_e: &'a [f64], psi_h: &'a [f64]) -> bool
     requires { (length psi_e.now ≡ 144) × (length psi_h.now ≡ 144) }
 {
-    let m = memory::psi(which, psi_e, psi_h, 24);
-    let mut i = 0;
-    while i < m.len() {
-        if !same(m[i], 0.0) {
+    memory::psi(which, psi_e, psi_h, 24)
+        .iter()
+        .all(|x| same(*x, 0.0))
+}
+
+fn all_cleared<'a>(psi_e: &'a [f64], psi_h: &'a [f64]) -> bool
+    requires { (length psi_e.now ≡ 144) × (length psi_h.now ≡ 144) }
+{
+    let memories = [
+        Psi::Exy,
+        Psi::Exz,
+        Psi::Eyz,
+        Psi::Eyx,
+        Psi::Ezx,
+        Psi::Ezy,
+        Psi::Hxy,
+        Psi::Hxz,
+        Psi::Hyz,
+        Psi::Hyx,
+        Psi::Hzx,
+        Psi::Hzy,
+    ];
+    for which in memories {
+        if !cleared(which, psi_e, psi_h) {
             return false;
         }
-        i += 1;
     }
     true
 }
 
-fn electric_cleared<'a>(psi_e: &'a [f64], psi_h: &'a [f64]) -> bool
-    requires { (length psi_e.now ≡ 144) × (length psi_h.now ≡ 144) }
-{
-    cleared(Psi::Exy, psi_e, psi_h)
-        & cleared(Psi::Exz, psi_e, psi_h)
-        & cleared(Psi::Eyz, psi_e, psi_h)
-        & cleared(Psi::Eyx, psi_e, psi_h)
-        & cleared(Psi::Ezx, psi_e, psi_h)
-        & cleared(Psi::Ezy, psi_e, psi_h)
-}
-
-fn magnetic_cleared<'a>(psi_e: &'a [f64], psi_h: &'a [f64]) -> bool
-    requires { (length psi_e.now ≡ 144) × (length psi_h.now ≡ 144) }
-{
-    cleared(Psi::Hxy, psi_e, psi_h)
-        & cleared(Psi::Hxz, psi_e, psi_h)
-        & cleared(Psi::Hyz, psi_e, psi_h)
-        & cleared(Psi::Hyx, psi_e, psi_h)
-        & cleared(Psi::Hzx, psi_e, psi_h)
-        & cleared(Psi::Hzy, psi_e, psi_h)
-}
-
 // Whether conducting walls clear all twelve memories of the line, the last number of which is then put to another.
-fn memories_cleared(r: Record, last: f64) -> bool {
-    let mut psi_e = [1.5; 144];
-    let mut psi_h = [1.5; 144];
-    let mut tables = [1.5; 156];
-    let o = walling::set_boundary_conductor(r, &mut psi_e, &mut psi_h, &mut tables);
-    psi_h[143] = last;
-    let electric = electric_cleared(&psi_e, &psi_h);
-    let magnetic = magnetic_cleared(&psi_e, &psi_h);
-    (o.refusal == 0) & electric & magnetic
+fn memories_cleared(last: f64) -> Result<bool, Refusal> {
+    let mut line = Cells24::new();
+    let r = line.open(24)?;
+    line.psi_e.fill(1.5);
+    line.psi_h.fill(1.5);
+    walling::set_boundary_conductor(r, &mut line.psi_e, &mut line.psi_h, &mut line.tables)?;
+    line.psi_h[143] = last;
+    Ok(all_cleared(&line.psi_e, &line.psi_h))
 }
 
 // Whether the lossy edge leaves sigma, 0.25, in a study of one cell.
-fn sigma_kept(r: Record, stated: f64) -> bool {
+fn sigma_kept(stated: f64) -> Result<bool, Refusal> {
     let a = LossyAbsorber {
         thickness: 9,
         order: 1,
         sigma_max: 8.0,
     };
-    let mut psi_e = [0.0; 6];
-    let mut psi_h = [0.0; 6];
-    let mut tables = [0.0; 18];
-    let mut media = [1.0, 1.0, 0.25];
-    let o = walling::set_boundary_lossy(r, a, &mut psi_e, &mut psi_h, &mut tables, &mut media);
-    (o.refusal == 0) & same(media[2], stated)
+    let mut cell = OneCell::new();
+    let r = cell.open(1)?;
+    cell.media[2] = 0.25;
+    walling::set_boundary_lossy(
+        r,
+        a,
+        &mut cell.psi_e,
+        &mut cell.psi_h,
+        &mut cell.tables,
+        &mut cell.media,
+    )?;
+    Ok(same(cell.media[2], stated))
 }
 
 fn main(rt: HostRuntime) -> io::Result<()> {
-    let r = line();
-    let c = one_cell();
     say(
         &rt,
         b"n 24, thickness 0 inactive",
-        inactive(r, 0),
-        inactive(r, 11),
+        active_on_z(0, false),
+        active_on_z(11, false),
     )?;
     say(
         &rt,
         b"n 24, thickness 11 active",
-        active_on_z(r, 11),
-        active_on_z(r, 12),
+        active_on_z(11, true),
+        active_on_z(12, true),
     )?;
     say(
         &rt,
         b"n 24, thickness 12 inactive",
-        inactive(r, 12),
-        inactive(r, 11),
+        active_on_z(12, false),
+        active_on_z(11, false),
     )?;
     say(
         &rt,
         b"all twelve memories cleared",
-        memories_cleared(r, 0.0),
-        memories_cleared(r, 1.5),
+        memories_cleared(0.0).unwrap_or(false),
+        memories_cleared(1.5).unwrap_or(false),
     )?;
     say(
         &rt,
         b"lossy, n 1, sigma kept",
-        sigma_kept(c, 0.25),
-        sigma_kept(c, 0.5),
+        sigma_kept(0.25).unwrap_or(false),
+        sigma_kept(0.5).unwrap_or(false),
     )?;
     say(
         &rt,

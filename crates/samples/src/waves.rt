@@ -2,7 +2,10 @@
 ghost use Rattle.std.specs.Prelude.{◌≡◌, length};
 
 use crate::same;
-use root::{C0, EPS0, MU0, Spacings};
+use crate::study::FourCells;
+use grid::Record;
+use refusals::Refusal;
+use root::{EPS0, MU0};
 use tfsf::region;
 
 // The line of four cells has 52 places: ex, then hy.
@@ -14,14 +17,13 @@ const SOURCE: usize = 6;
 fn zero_but(line: &[f64], a: usize, z: usize) -> bool
     requires { length line.now ≡ 104 }
 {
-    let mut all = true;
-    let mut i = 0;
-    while i < PLACES {
+    for i in 0..PLACES {
         let other = (a <= i) & (i < z);
-        all = all & (other | (same(line[i], 0.0) & same(line[PLACES + i], 0.0)));
-        i += 1;
+        if !(other | (same(line[i], 0.0) & same(line[PLACES + i], 0.0))) {
+            return false;
+        }
     }
-    all
+    true
 }
 
 // The sample at the source, and nothing else.
@@ -52,60 +54,17 @@ fn after_two(line: &[f64], first: f64, second: f64) -> bool
 }
 
 // Whether the line is as stated after each of two steps, the second with the sample stated.
+fn sent_as(first: f64, second: f64, stated: f64) -> Result<bool, Refusal> {
+    let mut study = FourCells::new();
+    let opened = study.open(4)?;
+    let r = region::slab_z(opened, 1, 2, &mut study.aux)?;
+    let clock = study.step(r, first)?;
+    let one = after_one(&study.aux, first);
+    let clock = study.step(Record { clock, ..r }, second)?;
+    let two = after_two(&study.aux, first, stated);
+    Ok((clock.steps == 2) & one & two)
+}
+
 pub fn wave_sent(first: f64, second: f64, stated: f64) -> bool {
-    let s = Spacings {
-        dx: 1.0,
-        dy: 1.0,
-        dz: 1.0,
-        dt: 1.0,
-    };
-    let mut e = [1.5; 12];
-    let mut h = [1.5; 12];
-    let mut media = [1.5; 12];
-    let mut psi_e = [1.5; 24];
-    let mut psi_h = [1.5; 24];
-    let mut tables = [1.5; 36];
-    let mut poles = [1.5; 12];
-    let mut aux = [1.5; 104];
-    let mut ids = [7u32; 4];
-    let standing = opening::open_record(0, 0, 0, 0, s, 0);
-    let o = opening::new_rect(
-        standing,
-        1,
-        1,
-        4,
-        0,
-        s,
-        0,
-        &mut e,
-        &mut h,
-        &mut media,
-        &mut psi_e,
-        &mut psi_h,
-        &mut tables,
-        &mut poles,
-        &mut aux,
-        &mut ids,
-    );
-    let w = region::slab_z(o.study, 1, 2, &mut aux);
-    let p = clock::step_record(
-        EPS0, MU0, C0, w.study, first, &mut e, &mut h, &media, &mut psi_e, &mut psi_h, &tables,
-        &mut poles, &mut aux, &ids,
-    );
-    let one = after_one(&aux, first);
-    let t = p.clock;
-    let mut r = w.study;
-    r.clock = t;
-    let q = clock::step_record(
-        EPS0, MU0, C0, r, second, &mut e, &mut h, &media, &mut psi_e, &mut psi_h, &tables,
-        &mut poles, &mut aux, &ids,
-    );
-    let two = after_two(&aux, first, stated);
-    (o.refusal == 0)
-        & (w.refusal == 0)
-        & (p.refusal == 0)
-        & (q.refusal == 0)
-        & (q.clock.steps == 2)
-        & one
-        & two
+    sent_as(first, second, stated).unwrap_or(false)
 }

@@ -39,7 +39,7 @@ const PUT_F64: &str = "
 ";
 /// Where the C function's inner one calls the writer.
 const SAVE: &str = "
-    let o = saves::save(";
+    saves::save(";
 
 const NEW_FILE: Change = Change(
     WORDS,
@@ -171,11 +171,11 @@ fn from(out: &mut [u8], at: usize) -> &mut [u8] {
                 SAVE,
                 "
     copy(out, 6, b);
-    let o = saves::save(",
+    saves::save(",
             ),
             Change(
                 ON_BLOCK,
-                "fn standing()",
+                "pub fn rewind(",
                 "
 fn copy(out: &mut [u8], at: usize, s: &[u8]) {
     let mut i = 0;
@@ -185,7 +185,7 @@ fn copy(out: &mut [u8], at: usize, s: &[u8]) {
     }
 }
 
-fn standing()",
+pub fn rewind(",
             ),
         ],
         told: &[(ON_BLOCK, "out[at + i] = s[i];")],
@@ -198,7 +198,7 @@ fn standing()",
             "
     let n = codec::numbers::get_u64(b, 0);
     codec::numbers::put_u64(out, 6, n);
-    let o = saves::save(",
+    saves::save(",
         )],
         told: &[(ON_BLOCK, "let n = codec::numbers::get_u64(b, 0);")],
     },
@@ -258,8 +258,8 @@ fn standing()",
         what: "a constant of bytes",
         changes: &[Change(
             FRAME,
-            "pub const SHORT: u32 = 13;",
-            "pub const SHORT: u32 = 13;
+            "use refusals::{Refusal, require};",
+            "use refusals::{Refusal, require};
 const EMPTY: [u8; 6] = [0; 6];",
         )],
         told: &[(FRAME, "const EMPTY: [u8; 6] = [0; 6];")],

@@ -18,10 +18,11 @@ use tree::{Texts, Tree, texts};
 const SAVE: [&str; 3] = ["api_c", "saving", "cichowiej_save"];
 
 /// The files that the writer's functions stand in, below crates/.
-const WRITER: [&str; 20] = [
+const WRITER: [&str; 22] = [
     "api/src/saving.rt",
     "api_c/src/saving.rt",
     "block/src/lib.rt",
+    "calls/src/blocks.rt",
     "codec/src/floats.rt",
     "codec/src/frame.rt",
     "codec/src/numbers.rt",
@@ -36,6 +37,7 @@ const WRITER: [&str; 20] = [
     "puts/src/lib.rt",
     "reads/src/entries.rt",
     "reads/src/lib.rt",
+    "refusals/src/lib.rt",
     "root/src/vacuum.rt",
     "saves/src/lib.rt",
     "shapes/src/lib.rt",

@@ -11,8 +11,9 @@ use std::ops::Range;
 const ROOM: &str = "&mut [u8]";
 const BYTES: &str = "&[u8]";
 
-/// What the language has by itself.
-const BUILT_IN: [&str; 2] = ["f64::to_bits", "f64::from_bits"];
+/// What the language has by itself: functions, and methods.
+const BUILT_IN: [&str; 3] = ["f64::to_bits", "f64::from_bits", "u32::from"];
+const METHODS: [&str; 3] = ["len", "is_err", "is_finite"];
 
 pub struct Finding {
     pub path: String,
@@ -118,7 +119,7 @@ fn body(f: &Function) -> Lines {
 /// Every call is of a function that is looked at too.
 fn followed(one: &Reached) -> Lines {
     let known = |call: &Call| match call.is_method {
-        true => call.path == ["len"],
+        true => METHODS.contains(&call.path.join("::").as_str()),
         false => BUILT_IN.contains(&call.path.join("::").as_str()),
     };
     let mut out = Lines::new();

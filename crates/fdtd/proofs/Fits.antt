@@ -32,10 +32,7 @@ module _ (r : Record) (from : ℕ) (low : from ≤ 3) (sound : Sound r) where
   laid_x : Laid (turn_x r from)
   laid_x =
       record {
-        whole = cells_same r.nx r.ny r.nz ∙ sym (mul_assoc r.nz r.ny r.nx);
-        few = sound.cells;
-        sn = sound.ys;
-        tn = sound.zs;
+        rows = record { whole = cells_same r.nx r.ny r.nz ∙ sym (mul_assoc r.nz r.ny r.nx); few = sound.cells; sn = sound.ys; tn = sound.zs };
         rs = inl (omega arith, omega arith);
         rt = inl (omega arith, omega arith);
         st = inl (omega arith, omega arith);
@@ -44,10 +41,7 @@ module _ (r : Record) (from : ℕ) (low : from ≤ 3) (sound : Sound r) where
   laid_y : Laid (turn_y r from)
   laid_y =
       record {
-        whole = mul_assoc r.nx r.ny r.nz ∙ ap (λ (n : ℕ). r.nx * n) (mul_comm r.ny r.nz) ∙ sym (mul_assoc r.nx r.nz r.ny);
-        few = sound.cells;
-        sn = sound.zs;
-        tn = sound.xs;
+        rows = record { whole = mul_assoc r.nx r.ny r.nz ∙ ap (λ (n : ℕ). r.nx * n) (mul_comm r.ny r.nz) ∙ sym (mul_assoc r.nx r.nz r.ny); few = sound.cells; sn = sound.zs; tn = sound.xs };
         rs = inl (omega arith, omega arith);
         rt = inr (omega arith, omega arith);
         st = inr (omega arith, omega arith);
@@ -56,10 +50,7 @@ module _ (r : Record) (from : ℕ) (low : from ≤ 3) (sound : Sound r) where
   laid_z : Laid (turn_z r from)
   laid_z =
       record {
-        whole = ap (λ (n : ℕ). n * r.nz) (mul_comm r.nx r.ny);
-        few = sound.cells;
-        sn = sound.xs;
-        tn = sound.ys;
+        rows = record { whole = ap (λ (n : ℕ). n * r.nz) (mul_comm r.nx r.ny); few = sound.cells; sn = sound.xs; tn = sound.ys };
         rs = inr (omega arith, omega arith);
         rt = inr (omega arith, omega arith);
         st = inl (omega arith, omega arith);

@@ -30,7 +30,7 @@ Right g A w s t F G K x₀ m₀ x m =
 module _ (g : Turn) (laid : Laid g) (x₀ m₀ x m x' m' : List Float) (s t : ℕ) (hs : s < g.s.n) (ht : t < g.t.n) (A : Axis) (F G K : ℕ → Float)
     (go : Stored g A s t F G K x m x' m') where
   fits : row_at g s t + g.r.n ≤ g.count
-  fits = omega (arith, row_in g.r.n hs ht, laid.whole)
+  fits = omega (arith, row_in g.r.n hs ht, laid.rows.whole)
 
   module _ (v : NewNumbers) (right : Right g A v s t F G K x₀ m₀ x m) (w : Comp g A v x₀ m₀ (s + t * g.s.n) x m) where
     made : (i : ℕ) → i < g.r.n → (F i ≡ v.field s t i) × (G i ≡ v.first s t i) × (K i ≡ v.second s t i)
@@ -42,15 +42,15 @@ module _ (g : Turn) (laid : Laid g) (x₀ m₀ x m x' m' : List Float) (s t : �
     pub comp_own : Comp g A v x₀ m₀ (s + 1 + t * g.s.n) x' m'
     comp_own =
         record {
-          field = part_step _ _ _ _ _ _ g.t.n laid.whole x x' s t w.field hs ht
+          field = part_step _ _ _ _ _ _ g.t.n laid.rows.whole x x' s t w.field hs ht
               (λ q a b. go.0.under q (omega arith))
               (λ i l. go.0.at i (omega arith) l ∙ (made i l).0)
               (λ q a b. go.0.over q a);
-          first = part_step _ _ _ _ _ _ g.t.n laid.whole m m' s t w.first hs ht
+          first = part_step _ _ _ _ _ _ g.t.n laid.rows.whole m m' s t w.first hs ht
               (λ q a b. go.1.under q (omega arith))
               (λ i l. go.1.first i (omega arith) l ∙ (made i l).1)
               (λ q a b. go.1.mid q a (omega arith));
-          second = part_step _ _ _ _ _ _ g.t.n laid.whole m m' s t w.second hs ht
+          second = part_step _ _ _ _ _ _ g.t.n laid.rows.whole m m' s t w.second hs ht
               (λ q a b. go.1.mid q (omega (arith, fits)) (omega arith))
               (λ i l. go.1.second i (omega arith) l ∙ (made i l).2)
               (λ q a b. go.1.over q a);
@@ -67,9 +67,9 @@ module _ (g : Turn) (laid : Laid g) (x₀ m₀ x m x' m' : List Float) (s t : �
     pub comp_off : Apart g.count A A' → Comp g A' v' x₀ m₀ r x' m'
     comp_off p =
         record {
-          field = part_keep _ _ _ _ _ _ g.t.n laid.whole x x' r w.field few (λ q a b. same_x p q a b);
-          first = part_keep _ _ _ _ _ _ g.t.n laid.whole m m' r w.first few (λ q a b. same_m p q a (omega arith));
-          second = part_keep _ _ _ _ _ _ g.t.n laid.whole m m' r w.second few (λ q a b. same_m p q (omega arith) b);
+          field = part_keep _ _ _ _ _ _ g.t.n laid.rows.whole x x' r w.field few (λ q a b. same_x p q a b);
+          first = part_keep _ _ _ _ _ _ g.t.n laid.rows.whole m m' r w.first few (λ q a b. same_m p q a (omega arith));
+          second = part_keep _ _ _ _ _ _ g.t.n laid.rows.whole m m' r w.second few (λ q a b. same_m p q (omega arith) b);
         }
 
 pub apart_back : (count : ℕ) (A B : Axis) → Apart count A B → Apart count B A

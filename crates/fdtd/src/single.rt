@@ -4,7 +4,7 @@ ghost use Rattle.std.specs.Float.{nan};
 ghost use Rattle.fdtd.specs.Yee.{term, slope, in_layer, memory_after, curl};
 ghost use Rattle.fdtd.specs.Inner.Cell.{curl_by, first_by, second_by};
 ghost use Rattle.fdtd.specs.Inner.Begun.{Lone, Both, Known};
-ghost use Rattle.fdtd.specs.Inner.Turns.{Laid};
+ghost use Rattle.fdtd.specs.Inner.Turns.{Rows};
 
 use crate::turns::Turn;
 use crate::{Coef, rows, turns};
@@ -116,7 +116,7 @@ pub fn find_shared(
     gos: bool,
     got: bool,
 ) -> Shared
-    requires laid { Laid g }
+    requires rows { Rows g }
     requires s_lt_n { (s < g.s.n) × (t < g.t.n) × (bs < g.s.n) × (bt < g.t.n) }
     requires n_in_bounds { (g.s.tab + g.s.n + g.s.n + g.s.n ≤ length tab.now) × (g.t.tab + g.t.n + g.t.n + g.t.n ≤ length tab.now) }
     ensures { Known g tab.now s t bs bt gos got result }

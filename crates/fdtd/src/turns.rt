@@ -5,7 +5,7 @@ ghost use Rattle.root.specs.Rounded.{zero_f};
 ghost use Rattle.grid.specs.Inner.Sound.{Sound};
 ghost use Rattle.fdtd.specs.Axes.{next_of, has_next};
 ghost use Rattle.fdtd.specs.Yee.{coef_at};
-ghost use Rattle.fdtd.specs.Inner.Turns.{axis_by, turn_for, round, side_across, side_along, row_at, Laid, AtSpot, FirstPlace, Lull};
+ghost use Rattle.fdtd.specs.Inner.Turns.{axis_by, turn_for, round, side_across, side_along, row_at, Rows, AtSpot, FirstPlace, Lull};
 
 use crate::rows::Side;
 use crate::{Axis, Coef};
@@ -178,7 +178,7 @@ pub fn along(w: Axis, run: Run, own: usize, mem: usize) -> Side
 
 // The first cell of the row (s, t).
 fn row_at(g: Turn, s: usize, t: usize) -> usize
-    requires laid { Laid g }
+    requires rows { Rows g }
     requires s_lt_n { (s < g.s.n) × (t < g.t.n) }
     ensures { (result ≡ row_at g s t) × (result + g.r.n ≤ g.count) }
 {
@@ -187,7 +187,7 @@ fn row_at(g: Turn, s: usize, t: usize) -> usize
 
 // The row (s, t), and the rows (bs, t) and (s, bt) beside it.
 pub fn find_spot(g: Turn, s: usize, t: usize, bs: usize, bt: usize) -> Spot
-    requires laid { Laid g }
+    requires rows { Rows g }
     requires s_lt_n { (s < g.s.n) × (t < g.t.n) × (bs < g.s.n) × (bt < g.t.n) }
     ensures { AtSpot g s t bs bt result }
 {

@@ -114,12 +114,16 @@ pub record Lull (w : Axis) (tab : List Float) (a z : ℕ) (run : Run) : Type 0 w
 abbrev pub Apart : (count : ℕ) → Axis → Axis → Type 0
 Apart count A B = ((A.at + count ≤ B.at) × (A.mem + count + count ≤ B.mem)) ⊎ ((B.at + count ≤ A.at) × (B.mem + count + count ≤ A.mem))
 
--- the sizes, and where the components lie
-pub record Laid (g : Turn) : Type 0 where
+-- the sizes, by which a row lies in the grid
+pub record Rows (g : Turn) : Type 0 where
   pub whole : g.count ≡ g.t.n * g.s.n * g.r.n
   pub few : g.count ≤ 1048576
   pub sn : g.s.n ≤ 512
   pub tn : g.t.n ≤ 512
+
+-- those, and where the components lie
+pub record Laid (g : Turn) : Type 0 where
+  pub rows : Rows g
   pub rs : Apart g.count g.r g.s
   pub rt : Apart g.count g.r g.t
   pub st : Apart g.count g.s g.t

@@ -1,8 +1,8 @@
 -- A store by blocks of n numbers, one for each cell: one cell's numbers moved on, and changes of cells from a up to z, one after another and side by side. Assumes nothing.
-use Prim.Native.Nat.{ℕ, zero, suc, ◌+◌, ◌*◌, ◌≤◌, ◌<◌}
+use Prim.Native.Nat.{ℕ, ◌+◌, ◌*◌, ◌≤◌, ◌<◌}
 use native.Mathlib.Numerals.{add-one}
 use native.Mathlib.Omega.{arith}
-use mathlib.Core.Path.{◌≡◌, refl, sym, ap, ◌∙◌}
+use mathlib.Core.Path.{◌≡◌, refl, ap, ◌∙◌}
 use mathlib.Core.Bool.{Bool, true, false, cond}
 use mathlib.Core.List.{List}
 use lib.Dec.{ltb, eqb}
@@ -16,7 +16,7 @@ use Rattle.cells.specs.Reading.{block_end}
 use Rattle.grid.specs.Stores.{number_at}
 use Rattle.ade.specs.Polarization.{polarized}
 use Rattle.ade.specs.declared.Stepped.{Stepped}
-use Rattle.ade.specs.Inner.Runs.{coeff_at, nothing, store_moved, moved, tripled, through, Changed, field_at, by_span, by_three, by_run, by_cell, RunEnd}
+use Rattle.ade.specs.Inner.Runs.{coeff_at, store_moved, moved, tripled, through, Changed, field_at, by_span, by_three, by_run}
 
 -- two places of two blocks, or two of one, are two places
 same_block : (n x i a m : ℕ) → a < n → m < n → x * n + a ≡ i * n + m → x ≡ i
@@ -82,14 +82,6 @@ moved_same k e i j d x g h p q r s = cc
 abbrev pub Heeds : (ℕ → (ℕ → Float) → ℕ → Float) → Type 0
 Heeds F = (m : ℕ) (g h : ℕ → Float) → ((y : ℕ) → g y ≡ h y) → (x : ℕ) → F m g x ≡ F m h x
 
-pub changed_none : (n a : ℕ) (F : ℕ → (ℕ → Float) → ℕ → Float) (s : List Float) → Changed n a a F s s
-changed_none n a F s = record {
-  same = refl;
-  done = λ x m h k l. absurd (omega arith);
-  below = λ x m h l. refl;
-  above = λ x m h l. refl;
-}
-
 -- one change after another
 pub changed_then : (n a z : ℕ) (F H : ℕ → (ℕ → Float) → ℕ → Float) (old mid new : List Float) → Heeds H → Changed n a z F old mid → Changed n a z H mid new →
     Changed n a z (λ m g. H m (F m g)) old new
@@ -99,20 +91,6 @@ changed_then n a z F H old mid new heeds p q = record {
   below = λ x m h l. q.below x m h l ∙ p.below x m h l;
   above = λ x m h l. q.above x m h l ∙ p.above x m h l;
 }
-
--- further cells
-pub changed_on : (n a z : ℕ) (F : ℕ → (ℕ → Float) → ℕ → Float) (old mid new : List Float) → Heeds F → a ≤ z → Changed n 0 a F old mid → Changed n a z F mid new →
-    Changed n 0 z F old new
-changed_on n a z F old mid new heeds le p q = record {
-  same = q.same ∙ p.same;
-  done = λ x m h k l. at x m k l (ltb m a) refl;
-  below = λ x m h l. absurd (omega arith);
-  above = λ x m h l. q.above x m h l ∙ p.above x m (omega arith) l;
-}
-  where
-    at : (x m : ℕ) → m < z → m < n → (b : Bool) → ltb m a ≡ b → number_at new n x m ≡ F m (λ y. number_at old n y m) x
-    at x m k l true e = let h : m < a = ltb-true m a e in q.below x m h l ∙ p.done x m (omega arith) h l
-    at x m k l false e = let h : a ≤ m = ltb-false m a e in q.done x m h k l ∙ heeds m _ _ (λ y. p.above y m h l) x
 
 -- the same change by another name
 pub changed_as : (n a z : ℕ) (F H : ℕ → (ℕ → Float) → ℕ → Float) (old new : List Float) →
@@ -134,13 +112,6 @@ moved_heeds k e i j d g h f x = moved_same k e i j d x g h (f i) (f j) (f d) (f 
 tripled_heeds : (k : AdeCoeffs) (e : ℕ → Float) (i j d : ℕ) (g h : ℕ → Float) → ((y : ℕ) → g y ≡ h y) → (x : ℕ) → tripled k e i j d g x ≡ tripled k e i j d h x
 tripled_heeds k e i j d g h f x =
     moved_heeds k (e 2) (i + 2) (j + 2) (d + 2) _ _ (moved_heeds k (e 1) (i + 1) (j + 1) (d + 1) _ _ (moved_heeds k (e 0) i j d g h f)) x
-
-pub through_heeds : (k : ℕ → AdeCoeffs) (slots : ℕ) (e : ℕ → Float) (s : ℕ) (g h : ℕ → Float) → ((y : ℕ) → g y ≡ h y) → (x : ℕ) →
-    through k slots e s g x ≡ through k slots e s h x
-unfolding through
-through_heeds k slots e zero g h f x = f x
-through_heeds k slots e (suc s) g h f x =
-    tripled_heeds (k s) e (3 * s) (3 * slots + 3 * s) (6 * slots) _ _ (through_heeds k slots e s g h f) x
 
 -- the three components of a slot
 pub three_done : (k : AdeCoeffs) (electric : List Float) (n i j d a z : ℕ) (old one two new : List Float) → Changed n a z (by_span k electric n 0 i j d) old one →
@@ -169,17 +140,6 @@ run_more k electric n slots s a z old now new p q =
     (λ m g h f x. tripled_heeds (coeff_at k s) (field_at electric n m) (3 * s) (3 * slots + 3 * s) (6 * slots) g h f x) p q)
 
 -- one run more
-pub cells_more : (table : List Stepped) (ids : List ℕ) (electric : List Float) (n slots a z : ℕ) (old now new : List Float) →
-    Changed n 0 a (by_cell table ids electric n slots) old now → RunEnd ids n a z →
-    Changed n a z (by_run (get_or table (get_or ids a 0) nothing) electric n slots (get_or table (get_or ids a 0) nothing).count) now new →
-    Changed n 0 z (by_cell table ids electric n slots) old new
-cells_more table ids electric n slots a z old now new p r q =
-    changed_on n a z (by_cell table ids electric n slots) old now new
-    (λ m g h f x. let k = get_or table (get_or ids m 0) nothing in through_heeds (coeff_at k) slots (field_at electric n m) k.count g h f x)
-    (omega (arith, r.further)) p
-    (changed_as n a z _ _ now new
-    (λ m g x h l. ap (λ (id : ℕ). by_run (get_or table id nothing) electric n slots (get_or table id nothing).count m g x) (sym (r.alike m h l))) q)
-
 -- ---- one cell more
 pub span_more : (k : AdeCoeffs) (electric : List Float) (n c i j d a m : ℕ) (old now new : List Float) → Changed n a m (by_span k electric n c i j d) old now →
     a ≤ m → m < n → i * n + n ≤ length old → j * n + n ≤ length old → d * n + n ≤ length old →

@@ -24,7 +24,7 @@ use Rattle.corrections.specs.declared.Corrected.{Corrected}
 use Rattle.tfsf.specs.declared.faces.Face.{Face}
 use Rattle.tfsf.specs.Line.{ex_at, hy_at}
 use Rattle.tfsf.specs.Corrections.{side_faces, upper_face, half_end, z_plane, y_plane, x_plane, hy_lower, hy_upper, hz_lower, hz_upper, ex_lower, ex_upper, ez_lower, ez_upper, added_h, added_e, cell_number, correct_face, correct_h, correct_e}
-use Rattle.corrections.specs.Inner.Faces.{add_box, addend, addends, face_done, corrected, Inside, FaceFits, Corners, FacesReady, Low}
+use Rattle.corrections.specs.Inner.Faces.{add_box, addend, addends, face_done, corrected, Inside, FaceFits, Corners, FacesReady}
 use Rattle.corrections.proofs.Adding.{face_added}
 
 -- ---- the region's corners
@@ -49,12 +49,6 @@ corners_of g nx ny nz e =
       y = ltb-true g.j1 ny (and_right (i && x && j) y four);
       z = ltb-true g.k1 nz (and_right (i && x && j && y && k) z e);
     }
-
-pub low_of : {r : Record} {media line s : List Float} → FacesReady r media line s → Low r.region
-low_of {r} p =
-    let q = p.corners in
-    let t = p.sound in
-    record { i0 = omega arith; i1 = omega arith; j0 = omega arith; j1 = omega arith; k0 = omega arith; k1 = omega arith }
 
 -- ---- a face from what its parts come to
 abbrev face : Bool → ℕ → IndexBox → Float → Bool → ℕ → Face
@@ -145,9 +139,6 @@ module _ (r : Record) (c : Corners r.region r.nx r.ny r.nz) where
   ez_upper_fit = (x_inside g.i1 (omega arith), omega arith, omega arith)
 
 -- ---- what the loops lean on
-pub fits_kept : {w : Corrected} {f : Face} {media : List Float} (s t : List Float) → length t ≡ length s → FaceFits w f media s → FaceFits w f media t
-fits_kept s t e p = record { box = p.box; count = p.count; plane = p.plane; few = p.few; stuff = p.stuff; room = omega (arith, p.room) }
-
 abbrev pub Asked : Corrected → Face → (media line t : List Float) → Type 0
 Asked w f media line t = FaceFits w f media t × (w.incident + f.offset + w.nz ≤ length line)
 

@@ -2,7 +2,7 @@
 use Prim.Native.Nat.{ℕ, zero, suc, ◌+◌, ◌-◌, ◌*◌, ◌≤◌, ◌<◌}
 use native.Mathlib.Nat.{mul-le-mul_right}
 use native.Mathlib.Omega.{arith}
-use mathlib.Core.Path.{◌≡◌, refl, sym, ap, ◌∙◌, subst}
+use mathlib.Core.Path.{◌≡◌, refl, sym, ap, ◌∙◌}
 use mathlib.Core.Bool.{Bool, true, false, cond}
 use mathlib.Core.List.{List}
 use lib.ListN.{length, take, drop}
@@ -38,10 +38,6 @@ number_small Hzy = omega arith
 -- each of the six parts ends within the store
 pub part_in : (k n : ℕ) → k ≤ 5 → k * n + n ≤ 6 * n
 part_in k n small = let h : k * n ≤ 5 * n = mul-le-mul_right n small in omega (arith, h)
-
-pub memory_in : (p : Place) (w : Psi) (n : ℕ) → p ≡ place_of w → p.number * n + n ≤ 6 * n
-memory_in p w n e =
-    part_in p.number n (subst (λ (q : Place). q.number ≤ 5) (sym e) (number_small w))
 
 -- what the lookup takes, of one store or the other
 pub memory_is : {on : Bool} (p : Place) (w : Psi) (e h : List Float) (n : ℕ) → p ≡ place_of w → p.electric ≡ on →

@@ -11,8 +11,8 @@ use Rattle.fdtd.specs.declared.single.Shared.{Shared}
 use Rattle.fdtd.specs.declared.turns.Turn.{Turn}
 use Rattle.fdtd.specs.declared.turns.Spot.{Spot}
 use Rattle.fdtd.specs.Yee.{coef_at}
-use Rattle.fdtd.specs.Inner.Turns.{round, row_at, spot_of, AtSpot, Fit, Laid, NewNumbers}
-use Rattle.fdtd.specs.Inner.Begun.{Rule, StoredBy, Near, shared_of, Known, Doing}
+use Rattle.fdtd.specs.Inner.Turns.{round, row_at, spot_of, AtSpot, Laid, NewNumbers}
+use Rattle.fdtd.specs.Inner.Begun.{Rule, StoredBy, shared_of, Known, Doing}
 use Rattle.fdtd.proofs.Singles.{Fair, cell_law}
 
 -- what a row shares
@@ -24,27 +24,6 @@ module _ (g : Turn) (tab : List Float) (s t bs bt : ℕ) (gos got : Bool) where
   pub known_of : {p : Spot} {ks kt : Coef} → AtSpot g s t bs bt p → ks ≡ coef_at g.s tab s → kt ≡ coef_at g.t tab t
       → Known g tab s t bs bt gos got (record { q = p.q; bs = p.bs; bt = p.bt; gos = gos; got = got; ks = ks; kt = kt })
   known_of a b c = record { is = shared_is a.is b c; own = a.own; ons = a.ons; ont = a.ont }
-
-  pub known_as : {bs' bt' : ℕ} {gos' got' : Bool} {w : Shared} → Known g tab s t bs bt gos got w → bs ≡ bs' → bt ≡ bt' → gos ≡ gos' → got ≡ got'
-      → Known g tab s t bs' bt' gos' got' w
-  known_as w a b c d = rw (← a, ← b, ← c, ← d) w
-
--- its three components
-module _ {g : Turn} {source tab mem moved : List Float} {cell ns nt : ℕ} (fit : Fit g source tab mem moved) (a : cell < g.count) (b : ns < g.count) (c : nt < g.count) where
-  pub near_r : Near g source mem moved cell ns nt
-  near_r = record { own = a; ons = b; ont = c; es = fit.es; et = fit.et; hr = fit.hr; mr = fit.mr }
-
-  near_round : Near (round g) source mem moved cell ns nt
-  near_round = record { own = a; ons = b; ont = c; es = fit.et; et = fit.er; hr = fit.hs; mr = fit.ms }
-
-  near_twice : Near (round (round g)) source mem moved cell ns nt
-  near_twice = record { own = a; ons = b; ont = c; es = fit.er; et = fit.es; hr = fit.ht; mr = fit.mt }
-
-  pub near_s : {gs : Turn} → gs ≡ round g → Near gs source mem moved cell ns nt
-  near_s e = rw e near_round
-
-  pub near_t : {gs gt : Turn} → gs ≡ round g → gt ≡ round gs → Near gt source mem moved cell ns nt
-  near_t e d = rw (d, e) near_twice
 
 moved_as : (v : Rule) (g g' : Turn) (x m : List Float) {x' m' : List Float} {cell cell' ns ns' nt nt' : ℕ} {go go' : Bool} {ks ks' kt kt' : Coef}
     → StoredBy v g cell ns nt go ks kt x m x' m' → g ≡ g' → cell ≡ cell' → ns ≡ ns' → nt ≡ nt' → go ≡ go' → ks ≡ ks' → kt ≡ kt' → StoredBy v g' cell' ns' nt' go' ks' kt' x m x' m'

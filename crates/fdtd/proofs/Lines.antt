@@ -1,17 +1,17 @@
 -- A row of one component more, which leaves the others; a row of all three. Assumes nothing.
-use mathlib.Core.Path.{◌≡◌, refl, ◌∙◌, subst}
+use mathlib.Core.Path.{◌≡◌, ◌∙◌, subst}
 use mathlib.Core.Logic.{inl, inr, ⊎_elim}
 use mathlib.Core.List.{List}
 use Prim.Native.Nat.{ℕ, ◌+◌, ◌*◌, ◌≤◌, ◌<◌}
 use native.Mathlib.Omega.{arith}
-use lib.ListN.{length, get_or}
+use lib.ListN.{get_or}
 use lib.Ieee.{Float, nan}
 use Rattle.fdtd.specs.declared.Axis.{Axis}
 use Rattle.fdtd.specs.declared.turns.Turn.{Turn}
 use Rattle.fdtd.specs.Inner.Span.{Span, Two}
-use Rattle.fdtd.specs.Inner.Turns.{row_at, Fit, Apart, Laid, NewNumbers, Comp, Done}
+use Rattle.fdtd.specs.Inner.Turns.{row_at, Apart, Laid, NewNumbers, Comp, Done}
 use Rattle.fdtd.proofs.Places.{row_in, row_number}
-use Rattle.fdtd.proofs.Parts.{part_start, part_keep, part_step}
+use Rattle.fdtd.proofs.Parts.{part_keep, part_step}
 
 -- a row stored: the numbers along A hold F, their memories G and K
 abbrev pub Stored : Turn → Axis → (s t : ℕ) → (F G K : ℕ → Float) → (x m x' m' : List Float) → Type 0
@@ -103,36 +103,6 @@ module _ (g : Turn) (laid : Laid g) (R S T : NewNumbers) (x₀ m₀ x m x1 m1 x2
         along_t = comp_own g laid x₀ m₀ x2 m2 x3 m3 s t hs ht g.t F3 G3 K3 three T rt t2;
       }
 
--- at the start, and the same number of rows
-pub done_start : (g : Turn) (R S T : NewNumbers) (x m : List Float) → Done g R S T x m 0 x m
-done_start g R S T x m =
-    record {
-      len_x = refl;
-      len_m = refl;
-      along_r = record { field = part_start _ _ _ _ _ _; first = part_start _ _ _ _ _ _; second = part_start _ _ _ _ _ _ };
-      along_s = record { field = part_start _ _ _ _ _ _; first = part_start _ _ _ _ _ _; second = part_start _ _ _ _ _ _ };
-      along_t = record { field = part_start _ _ _ _ _ _; first = part_start _ _ _ _ _ _; second = part_start _ _ _ _ _ _ };
-    }
-
+-- the same number of rows
 pub done_as : {g : Turn} {R S T : NewNumbers} {x₀ m₀ x m : List Float} {r r' : ℕ} → Done g R S T x₀ m₀ r x m → r ≡ r' → Done g R S T x₀ m₀ r' x m
 done_as {g} {R} {S} {T} {x₀} {m₀} {x} {m} w p = subst (λ (k : ℕ). Done g R S T x₀ m₀ k x m) p w
-
-pub fit_as : {g : Turn} {e tab m x : List Float} (m' x' : List Float) → Fit g e tab m x → length m' ≡ length m → length x' ≡ length x → Fit g e tab m' x'
-fit_as m' x' f em ex =
-    record {
-      laid = f.laid;
-      some = f.some;
-      small = f.small;
-      er = f.er;
-      es = f.es;
-      et = f.et;
-      hr = omega arith;
-      hs = omega arith;
-      ht = omega arith;
-      mr = omega arith;
-      ms = omega arith;
-      mt = omega arith;
-      tr = f.tr;
-      ts = f.ts;
-      tt = f.tt;
-    }

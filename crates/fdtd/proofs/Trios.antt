@@ -18,9 +18,6 @@ put_law old i x y z p q r e = record {
 }
 
 module _ (f g : ℕ → Float) (old : Scratch) (a : ℕ) where
-  pub trio_start : Trio f g old a a old
-  trio_start = record { one = span_start _ _ _ _; two = span_start _ _ _ _; three = span_start _ _ _ _ }
-
   -- the cells from y up to z after those before them
   pub trio_join : {f' g' : ℕ → Float} {mid new : Scratch} {y z : ℕ} → Trio f g old a y mid → Trio f' g' mid y z new → a ≤ y → y ≤ z
       → ((i : ℕ) → y ≤ i → i < z → f' i ≡ f i) → ((i : ℕ) → y ≤ i → i < z → g' i ≡ g i) → Trio f g old a z new

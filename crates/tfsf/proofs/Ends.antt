@@ -1,10 +1,9 @@
 -- The auxiliary line: a span of its places as a loop writes it, and the whole line number by number against its definitions. Assumes nothing.
-use mathlib.Core.Path.{◌≡◌, refl, sym, ap, ◌∙◌, subst}
-use mathlib.Core.Logic.{⊎_elim}
+use mathlib.Core.Path.{◌≡◌, refl, sym, ap, ◌∙◌}
 use mathlib.Core.Bool.{Bool, true, false, cond}
 use mathlib.Core.List.{List, [], ◌∷◌, ◌++◌}
 use Prim.Native.Nat.{ℕ, ◌+◌, ◌-◌, ◌*◌, ◌≤◌, ◌<◌}
-use native.Mathlib.Nat.{eq-or-lt_of_le, zero-add}
+use native.Mathlib.Nat.{zero-add}
 use native.Mathlib.Omega.{arith}
 use lib.Dec.{ltb, eqb}
 use lib.ListN.{length, get_or, set, drop, length-set, length-drop, take-append-drop}
@@ -20,40 +19,9 @@ use Rattle.cells.proofs.Pointwise.{part_row}
 use Rattle.tfsf.specs.Line.{ex_at, hy_at, line_factor, hy_inner, ex_inner, mur_end, mur_factor, hy_after, line_h, ex_moved, ex_after, line_e}
 use Rattle.tfsf.specs.Inner.Spans.{Spanned, Sized}
 
--- ---- a span, place by place
-pub span_none : (f : ℕ → Float) (a e : ℕ) (s : List Float) → e ≤ a → Spanned f a e s s
-span_none f a e s l = record { same = refl; inside = λ q h k. absurd (omega arith); below = λ q h. refl; above = λ q h. refl }
-
-pub span_more : (f : ℕ → Float) (a e : ℕ) (s t : List Float) (v : Float) → Spanned f a e s t → a ≤ e → e < length s → v ≡ f e → Spanned f a (e + 1) s (set t e v)
-span_more f a e s t v p h k w = record {
-  same = length-set t e v ∙ p.same;
-  inside = λ q x y. ⊎_elim (λ z. here q z) (λ z. get_or-set_other t e q v nan (λ i. absurd (omega arith)) ∙ p.inside q x z) (eq-or-lt_of_le (let z : q ≤ e = omega arith in z));
-  below = λ q x. get_or-set_other t e q v nan (λ i. absurd (omega arith)) ∙ p.below q x;
-  above = λ q x. get_or-set_other t e q v nan (λ i. absurd (omega arith)) ∙ p.above q (omega arith);
-}
-  where
-    here : (q : ℕ) → q ≡ e → get_or (set t e v) q nan ≡ f q
-    here q z = rw z (get_or-set_same t e v nan (omega (arith, p.same)) ∙ w)
-
 -- the new hy by its place in the line, after all of ex
 abbrev pub hy_span : (factor : Float) → (n : ℕ) → List Float → ℕ → Float
 hy_span factor n s q = hy_inner factor n s (q - n)
-
-module _ (factor : Float) (n : ℕ) (s t : List Float) (z : Sized n s) (a : ℕ) (v : Float) where
-  pub h_more : a + 1 < n → Spanned (hy_span factor n s) n (n + a) s t → v ≡ hy_inner factor n t a → Spanned (hy_span factor n s) n (n + (a + 1)) s (set t (n + a) v)
-  h_more h p e =
-      let next : n + a + 1 ≡ n + (a + 1) = omega arith in
-      let back : a ≡ n + a - n = omega arith in
-      subst (λ (i : ℕ). Spanned (hy_span factor n s) n i s (set t (n + a) v)) next
-      (span_more (hy_span factor n s) n (n + a) s t v p (omega arith) (omega (arith, z.long))
-      (e
-      ∙ rw (p.above (n + a) (omega arith), p.below (a + 1) (omega arith), p.below a (omega arith)) refl
-      ∙ ap (hy_inner factor n s) back))
-
-  pub e_more : 1 ≤ a → a + 1 < n → Spanned (ex_inner factor n s) 1 a s t → v ≡ ex_inner factor n t a → Spanned (ex_inner factor n s) 1 (a + 1) s (set t a v)
-  e_more l h p e =
-      span_more (ex_inner factor n s) 1 a s t v p l (omega (arith, z.long))
-      (e ∙ rw (p.above a (omega arith), p.above (n + a) (omega arith), p.above (n + (a - 1)) (omega arith)) refl)
 
 -- ---- a list of two rows
 pub rows_are : (n : ℕ) (f g : ℕ → Float) (l : List Float) → length l ≡ 2 * n → ((q : ℕ) → q < n → get_or l q nan ≡ f q) →

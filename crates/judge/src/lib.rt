@@ -69,6 +69,7 @@ fn head_good(g: [u64; 27]) -> bool
     shapes::gh_fine(g) & fault::fault_of(bare_record(g)).is_ok()
 }
 
+// kept: three functions of one shape, this one, `take_list` and `take_floats`: what judges a payload needs its bytes to be there, which a closure would have to be told.
 fn take_head(b: &[u8], old: bool) -> Result<Frame, Refusal>
     ensures fault { code result ≡ record_fault (head_record old) b.now }
     ensures frame { IfOk result (λ f. f ≡ frame_of 0 (size_by old)) }

@@ -7,6 +7,7 @@ use std::io;
 use std::io::{Read, Write};
 
 // Reads until b is full or the input ends, and answers how many bytes it put at the start of b.
+// kept: `read_exact` does not tell how much there was, and `read_to_end` fills a Vec.
 fn read_full<R: Read>(input: &mut R, b: &mut [u8]) -> io::Result<usize>
     ensures { IfOk result (λ n. n ≤ length b.new) }
 {

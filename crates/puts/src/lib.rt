@@ -154,6 +154,7 @@ fn put_ends(out: &mut [u8], at: usize, poles: &[f64], aux: &[f64])
     put_store(out, p, AX, aux);
 }
 
+// kept: the nine stores stand apart, here and in the crates above, as C lends them.
 pub fn put_save<'a>(
     out: &mut [u8],
     r: Record,

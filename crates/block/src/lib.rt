@@ -70,7 +70,7 @@ pub fn is_record(b: &[u8]) -> bool
 }
 
 // How many of the entries are counted.
-// kept: no `min`, and below no `fill`, since the test on the source follows each call of what writes a save (docs/DECISIONS.md, D-52).
+// kept: no `min`, and below no `fill`: each method of the library is one more that the test on the source has to know, and it lets the room be written a place at a time alone (docs/DECISIONS.md, D-52).
 fn counted_of(count: usize) -> usize
     ensures { (result ≤ 16) × ((i : ℕ) → i < 16 → ltb i result ≡ ltb i count) }
 {

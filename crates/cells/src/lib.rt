@@ -17,7 +17,7 @@ pub struct IndexBox {
     pub k1: usize,
 }
 
-// kept: nx, ny and nz, and no struct of them: a record has them as fields of its own, and `set_box` and `cellwise` take them so.
+// kept: a store and a place in it, and nx, ny and nz as the record and `set_box` have them (docs/DECISIONS.md, D-61).
 fn fill_row<T: Copy>(s: &mut [T], at: usize, nx: usize, i0: usize, i1: usize, v: T)
     requires { at + nx ≤ length s.old }
     ensures { s.new ≡ on at nx (set_row nx i0 i1 v) s.old }

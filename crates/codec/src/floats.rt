@@ -9,7 +9,7 @@ ghost use Rattle.codec.specs.Bytes.{fine, float_bytes};
 use super::numbers::put_u64;
 
 // The pattern that is written for x: its own, or the one NaN's.
-// kept: x != x and no `is_nan`: the test on the source follows each call of what writes a save (docs/DECISIONS.md, D-52).
+// kept: x != x and no `is_nan`: the edit nan_kept puts in its place a test of the same shape that nothing passes.
 pub fn bits_of(x: f64) -> u64
     ensures { result ≡ to_bits binary64 x }
 {

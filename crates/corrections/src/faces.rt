@@ -73,6 +73,8 @@ fn x_plane(g: Region, i: usize) -> IndexBox
 
 // ---- the eight, in the order in which they are corrected
 
+// kept: one function each, since each is a definition of tfsf/specs/Corrections.antt; they differ in component, plane, spacing, sign and place on the line.
+
 pub fn hy_lower(g: Region, s: Spacings) -> Face
     requires { Low g }
     ensures { result ≡ hy_lower g s }

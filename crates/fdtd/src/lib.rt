@@ -7,6 +7,7 @@ pub mod turns;
 
 // One axis: its cells, their size, whether it wraps, whether its layer is on, and where its component begins in a field, its two memories among the six,
 // and its three tables among all tables.
+// kept: `on` beside what it turns on, as `term` of specs/Yee.antt has it.
 #[derive(Clone, Copy)]
 pub struct Axis {
     pub n: usize,

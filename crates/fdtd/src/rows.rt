@@ -27,7 +27,7 @@ pub struct Differences {
 
 // A side on which a row's derivatives are taken. Its axis lies across the row, where the layer is k for each cell and the neighbours' numbers begin at
 // other; or along it, where the layer is taken from three tables of len numbers each, the first from tab on. From lo to hi the layer is quiet (c is 0).
-// kept: as an enum of the two kinds it would be told apart in each cell of the loops.
+// kept: a flag and no enum of the two kinds, since all passes read the other fields of both alike, and would match it to do so.
 #[derive(Clone, Copy)]
 pub struct Side {
     pub along: bool,

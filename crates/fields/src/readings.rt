@@ -75,7 +75,7 @@ fn energy_fault(r: Record, e: usize, h: usize, media: usize) -> Result<(), Refus
 }
 
 // The energy of both fields, by the record's constants.
-#[tactic(auto, unfolding(crate::specs::Fields::energy_call), using(grid::proofs::Settled::turned_down, refusals::proofs::Numbers::stands_in))]
+#[tactic(auto, unfolding(crate::specs::Fields::energy_call), using(grid::proofs::Settled::refused_with, refusals::proofs::Numbers::stands_in))]
 pub fn total_energy(r: Record, e: &[f64], h: &[f64], media: &[f64]) -> Result<f64, Refusal>
     ensures { outcome (code result) r (value_or zero_f result) ≡ energy_call (eps_of r) (mu_of r) r e.now h.now media.now }
 {
@@ -107,7 +107,7 @@ fn plane_fault(r: Record, k: usize, e: usize, h: usize) -> Result<(), Refusal>
 }
 
 // ex·hy over the cells of plane k, times the area of a cell.
-#[tactic(auto, unfolding(crate::specs::Fields::plane_call), using(grid::proofs::Settled::turned_down, refusals::proofs::Numbers::stands_in))]
+#[tactic(auto, unfolding(crate::specs::Fields::plane_call), using(grid::proofs::Settled::refused_with, refusals::proofs::Numbers::stands_in))]
 pub fn plane_reading(r: Record, k: usize, e: &[f64], h: &[f64]) -> Result<f64, Refusal>
     ensures { outcome (code result) r (value_or zero_f result) ≡ plane_call r k e.now h.now }
 {

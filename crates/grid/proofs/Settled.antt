@@ -16,15 +16,19 @@ use Rattle.grid.specs.Stores.{outcome, settle, or_else, store_lengths, same_leng
 use Rattle.grid.proofs.Tests.{and_left, and_right, first_none, or_none}
 use Rattle.grid.proofs.Judging.{sound}
 
--- the fault n of a definition is a call's refusal, or there is none
-pub turned_down : {A B : Type 0} (x : Result B Refusal) {n : ℕ} {r : Record} (r' : Record) {s : A} (s' : A) → IsErr x → code x ≡ n →
+-- f is the fault n of a definition, and it is one, or none
+pub turned_down : {A : Type 0} (f n : ℕ) (r r' : Record) (s s' : A) → f ≡ n → (f ≡ 0 → ⊥) → outcome f r s ≡ settle n r s r' s'
+turned_down f zero r r' s s' e h = absurd (h e)
+turned_down f (suc n) r r' s s' e h = rw e
+
+-- f is what a call answers: it has a refusal, or none
+pub refused_with : {A B : Type 0} (x : Result B Refusal) {n : ℕ} {r : Record} (r' : Record) {s : A} (s' : A) → IsErr x → code x ≡ n →
     outcome (code x) r s ≡ settle n r s r' s'
-turned_down x {n = zero} r' s' p e = absurd (some x p e)
-turned_down x {n = suc n} r' s' p e = rw e
+refused_with x {n = n} {r = r} r' {s = s} s' p e = turned_down (code x) n r r' s s' e (some x p)
 
 pub handed_back : {A : Type 0} (x : Result Record Refusal) {n : ℕ} (r r' : Record) {s : A} (s' : A) → IsErr x → code x ≡ n →
     outcome (code x) (value_or r x) s ≡ settle n r s r' s'
-handed_back x r r' s' p e = rw (stands_in x p r) (turned_down x r' s' p e)
+handed_back x r r' s' p e = rw (stands_in x p r) (refused_with x r' s' p e)
 
 pub own_fault : {B : Type 0} (x : Result B Refusal) {n : ℕ} (m : ℕ) → IsErr x → code x ≡ n → code x ≡ or_else n m
 own_fault x {n = zero} m p e = absurd (some x p e)
@@ -69,6 +73,13 @@ same_lengths_lem a b e =
     let e8 = eqb-true a.ids b.ids h8.1 in
     let same : remade a ≡ remade b = cc in
     same
+
+-- f is the fault that a call finds with its own test of lengths, done on what `judge` answered: the record's fault n and, where that is 0, the lengths l
+pub judged_fault : (r : Record) (test : Lengths → Bool) (n : ℕ) (l : Lengths) (f : ℕ) → n ≡ fault_of r → (n ≡ 0 → l ≡ store_lengths r) → f ≡ lent_fault n (test l) →
+    f ≡ fault_lent r (test (store_lengths r))
+unfolding fault_lent
+judged_fault r test zero l f e k q = q ∙ ap (λ (m : Lengths). lent_fault zero (test m)) (k refl) ∙ ap (λ (m : ℕ). lent_fault m (test (store_lengths r))) e
+judged_fault r test (suc n) l f e k q = q ∙ ap (λ (m : ℕ). lent_fault m (test (store_lengths r))) e
 
 -- no fault among the first four: the record is sound, and what is lent passed
 pub lent_none : (r : Record) (fits : Bool) → fault_lent r fits ≡ 0 → Sound r × (fits ≡ true)

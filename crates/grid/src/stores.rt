@@ -44,6 +44,7 @@ pub fn store_lengths(r: Record) -> Lengths
 }
 
 // The lengths of what is lent.
+// kept: nine slices and no struct of them, here and in each call that is lent them (docs/DECISIONS.md, D-61).
 pub fn lengths_of(
     electric: &[f64],
     magnetic: &[f64],
@@ -88,6 +89,7 @@ pub fn fault_with(r: Record, lent: Lengths) -> Result<(), Refusal>
 }
 
 // v from at on, n times.
+// kept: a store and a place in it: `s[at..at + n].fill(v)` is `put` only by a law at each call (docs/DECISIONS.md, D-61).
 pub fn fill<T: Copy>(s: &mut [T], at: usize, n: usize, v: T)
     requires { at + n ≤ length s.old }
     ensures { s.new ≡ put s.old at (replicate n v) }

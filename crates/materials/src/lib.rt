@@ -84,7 +84,7 @@ fn put_into(r: Record, b: IndexBox, what: Put, media: &mut [f64], ids: &mut [u32
 }
 
 // Puts what is asked for into each cell of a box, and answers how many cells it has. Where three numbers are put, the ids stand.
-#[tactic(auto, unfolding(crate::specs::Materials::put_box_call), using(crate::proofs::Placing::fillable, grid::proofs::Settled::turned_down, grid::proofs::Settled::taken_up, refusals::proofs::Numbers::stands_in))]
+#[tactic(auto, unfolding(crate::specs::Materials::put_box_call), using(crate::proofs::Placing::fillable, grid::proofs::Settled::refused_with, grid::proofs::Settled::taken_up, refusals::proofs::Numbers::stands_in))]
 pub fn put_box(
     r: Record,
     b: IndexBox,
@@ -193,7 +193,7 @@ fn add_fault(r: Record, m: DispersiveMaterial) -> Result<(), Refusal>
 }
 
 // Puts a material behind those that stand, and answers its id.
-#[tactic(auto, unfolding(crate::specs::Materials::add_call, crate::specs::Materials::added), using(grid::proofs::Settled::turned_down, grid::proofs::Settled::taken_up, refusals::proofs::Numbers::stands_in))]
+#[tactic(auto, unfolding(crate::specs::Materials::add_call, crate::specs::Materials::added), using(grid::proofs::Settled::refused_with, grid::proofs::Settled::taken_up, refusals::proofs::Numbers::stands_in))]
 pub fn add_material(r: Record, m: DispersiveMaterial) -> Result<(Record, u32), Refusal>
     ensures { outcome (code result) (value_or (r, 0) result).0 (value_or (r, 0) result).1 ≡ add_call r m }
 {

@@ -154,7 +154,7 @@ fn put_ends(out: &mut [u8], at: usize, poles: &[f64], aux: &[f64])
     put_store(out, p, AX, aux);
 }
 
-// kept: the nine stores stand apart, here and in the crates above, as C lends them.
+// kept: nine slices and no struct of them (docs/DECISIONS.md, D-61).
 pub fn put_save<'a>(
     out: &mut [u8],
     r: Record,

@@ -42,7 +42,7 @@ fn advance_all(
 }
 
 // A step for each sample.
-#[tactic(auto, unfolding(crate::specs::Run::run_call), using(grid::proofs::Settled::turned_down, grid::proofs::Settled::taken_up, refusals::proofs::Numbers::stands_in))]
+#[tactic(auto, unfolding(crate::specs::Run::run_call), using(grid::proofs::Settled::refused_with, grid::proofs::Settled::taken_up, refusals::proofs::Numbers::stands_in))]
 pub fn run(
     vacuum: Vacuum,
     r: Record,

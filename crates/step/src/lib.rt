@@ -51,7 +51,7 @@ pub fn advance(
 }
 
 // Moves a study on by one step, from the clock that is handed in beside the record. The sample is what the wave's source gives at time + dt.
-#[tactic(auto, unfolding(crate::specs::Step::step_call), using(grid::proofs::Settled::turned_down, grid::proofs::Settled::taken_up, refusals::proofs::Numbers::stands_in))]
+#[tactic(auto, unfolding(crate::specs::Step::step_call), using(grid::proofs::Settled::refused_with, grid::proofs::Settled::taken_up, refusals::proofs::Numbers::stands_in))]
 pub fn step(
     clock: Clock,
     vacuum: Vacuum,

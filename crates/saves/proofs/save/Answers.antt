@@ -3,7 +3,7 @@ use Rattle.std.specs.Prelude.{leb}
 use Rattle.refusals.specs.Refusals.{code}
 use Rattle.grid.specs.Fault.{first}
 use Rattle.grid.specs.Stores.{stores, lengths_of, fault_with}
-use Rattle.grid.proofs.Settled.{turned_down, taken_up, own_fault, later_fault, with_none}
+use Rattle.grid.proofs.Settled.{refused_with, taken_up, own_fault, later_fault, with_none}
 use Rattle.format.specs.Save.{save_length, save_fault, save_call, no_room}
 use Rattle.saves.proofs.Called.{roomy}
 use Rattle.saves.proofs.save.Goals as goal
@@ -14,7 +14,7 @@ returns-in_err-fault_with c =
     let a = c.args in
     let s = stores a.e.now a.h.now a.media.now a.psi_e.now a.psi_h.now a.tables.now a.poles.now a.aux.now a.ids.now in
     let told : code c.from_residual.result ≡ fault_with a.r (lengths_of s) = search rules in
-    turned_down _ _ _ (search rules) (own_fault _ _ (search rules) told)
+    refused_with _ _ _ (search rules) (own_fault _ _ (search rules) told)
 
 pub length_of-requires : goal.length_of-requires
 length_of-requires c = (with_none _ _ (sym c.in_ok-fault_with.ensures)).0
@@ -23,7 +23,7 @@ pub returns-in_err-require : goal.returns-in_err-require
 unfolding save_call save_fault
 returns-in_err-require c =
     let told : code c.from_residual-in_err-require.result ≡ first (leb (save_length c.args.r) (length c.args.out.now)) no_room 0 = search rules in
-    turned_down _ _ _ (search rules) (later_fault (c.in_ok-fault_with.ensures ∙ rw c.lengths_of-lent.ensures) told)
+    refused_with _ _ _ (search rules) (later_fault (c.in_ok-fault_with.ensures ∙ rw c.lengths_of-lent.ensures) told)
 
 pub put_save-requires : goal.put_save-requires
 put_save-requires c =

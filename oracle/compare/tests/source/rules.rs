@@ -12,7 +12,7 @@ const ROOM: &str = "&mut [u8]";
 const BYTES: &str = "&[u8]";
 
 /// What the language has by itself: functions, and methods.
-const BUILT_IN: [&str; 3] = ["f64::to_bits", "f64::from_bits", "u32::from"];
+const BUILT_IN: [&str; 2] = ["f64::to_bits", "f64::from_bits"];
 const METHODS: [&str; 3] = ["len", "is_err", "is_finite"];
 
 pub struct Finding {

@@ -2,7 +2,7 @@ use Rattle.std.proofs.Common.{rules, ◌≡◌}
 use Rattle.refusals.specs.Refusals.{code}
 use Rattle.grid.specs.Fault.{fault_of}
 use Rattle.grid.specs.Stores.{fault_lent, same_lengths}
-use Rattle.grid.proofs.Settled.{own_fault, later_fault}
+use Rattle.grid.proofs.Settled.{own_fault, judged_fault}
 use Rattle.grid.proofs.stores.fault_with.Goals as goal
 
 pub returns-in_err-expected : goal.returns-in_err-expected
@@ -13,4 +13,6 @@ returns-in_err-expected c =
 
 pub returns : goal.returns
 unfolding fault_lent same_lengths
-returns c = later_fault c.in_ok-expected.ensures.fault (let same = c.in_ok-expected.ensures.lengths.0 in search rules)
+returns c =
+    let same = c.in_ok-expected.ensures.lengths.0 in
+    judged_fault c.args.r (same_lengths c.args.lent) 0 c.in_ok-expected.expected _ c.in_ok-expected.ensures.fault (λ none. same) (search rules)

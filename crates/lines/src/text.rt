@@ -25,7 +25,7 @@ pub struct Text<'a> {
     pub at: usize,
 }
 
-impl<'a> Text<'a> {
+impl Text<'_> {
     fn put(&mut self, byte: u8)
         requires { Room 1 self.old }
         ensures { Puts 1 self.old (byte ∷ []) self.new }

@@ -2,7 +2,7 @@ use native.Mathlib.Omega.{arith}
 use mathlib.Core.Path.{ap}
 use Rattle.lines.specs.declared.fields.Fields.{Fields}
 use Rattle.lines.proofs.Written.{wrote_as}
-use Rattle.lines.proofs.Study.{study_sound, study_lies, study_most, study_wrote, grid_told}
+use Rattle.lines.proofs.Study.{study_sound, study_lies, study_wrote, grid_told}
 use Rattle.lines.proofs.put_study.Goals as goal
 
 pub stores_from-from-requires : goal.stores_from-from-requires
@@ -23,11 +23,6 @@ invariant_of-saved c =
       lies = study_lies _ (λ i. (c.type_inv.b i).fits) c.requires.0 _ own _ c.stores_from-from.ensures.0 _ at;
       sizes = (k.xs, k.ys, k.zs, omega (arith, ap (λ (f : Fields). f.cells) at));
     }
-
-pub put_grid-requires : goal.put_grid-requires
-put_grid-requires c =
-    let w = c.put_head.ensures in
-    omega (arith, study_most _ (λ i. (c.type_inv.b i).fits) c.requires.0 _ c.requires.1, w.ends, w.short, w.long, c.requires.2)
 
 pub returns : goal.returns
 returns c =

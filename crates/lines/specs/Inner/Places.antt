@@ -1,5 +1,5 @@
--- What the contracts of the inner functions of lines cite: text as code writes it, from a place on, and a cell's numbers by their places among a save's
--- bytes. Definitions only.
+-- What the contracts of the inner functions of lines cite: text as code writes it, after what stands already, and a cell's numbers by their places among
+-- a save's bytes. Definitions only.
 use Rattle.std.specs.Prelude.{ℕ, ◌+◌, ◌*◌, ◌≤◌, ◌≡◌, List, ◌++◌, length}
 use Rattle.std.specs.Float.{binary64}
 use Rattle.std.specs.Float.Ieee.{of_bits}

@@ -2,9 +2,6 @@ use Rattle.std.proofs.Common.{arith}
 use Rattle.lines.proofs.Written.{hex_empty, hex_next}
 use Rattle.lines.proofs.text.Text.+put_hex.Goals as goal
 
-pub put-requires : goal.put-requires
-put-requires t c = let w = c.put_hex.ensures in omega (arith, c.requires, c.if-w-gt0.true, w.ends, w.short, w.long)
-
 pub returns-then-w-gt0 : goal.returns-then-w-gt0
 returns-then-w-gt0 t c = hex_next _ _ c.if-w-gt0.true c.digit.ensures c.put_hex.ensures c.put.ensures
 

@@ -2,12 +2,6 @@ use Rattle.std.proofs.Common.{arith}
 use Rattle.lines.proofs.Written.{wrote_none, wrote_letter, wrote_word}
 use Rattle.lines.proofs.text.Text.put_word.Goals as goal
 
-pub put-requires : goal.put-requires
-put-requires c = omega (arith, c.requires, c.loop-byte.invariant.ends, c.loop-byte.invariant.short, c.loop-byte.invariant.long, c.loop-byte-test.true)
-
-pub put-requires-2 : goal.put-requires-2
-put-requires-2 c = omega (arith, c.requires, c.loop-byte.invariant.ends, c.loop-byte.invariant.short, c.loop-byte.invariant.long)
-
 pub loop-byte-init : goal.loop-byte-init
 loop-byte-init c = wrote_none (omega (arith, c.requires))
 

@@ -1,7 +1,7 @@
 -- What stands where a listing has no fault, and its two ends. Assumes nothing.
 use Prim.Native.Nat.{ℕ, ◌≤◌}
 use native.Mathlib.Omega.{arith}
-use mathlib.Core.Path.{◌≡◌, ap, ◌∙◌}
+use mathlib.Core.Path.{◌≡◌}
 use mathlib.Core.Bool.{true}
 use mathlib.Core.List.{List}
 use borrow.Author.Tests.{leb-true, ne_eqb}
@@ -10,12 +10,10 @@ use lib.ListN.{length}
 use Rattle.refusals.specs.declared.Refusal.{Refusal}
 use Rattle.refusals.specs.Refusals.{number}
 use Rattle.refusals.proofs.Numbers.{numbered}
-use Rattle.codec.specs.Lists.{put}
 use Rattle.grid.specs.Stores.{cells}
 use Rattle.grid.proofs.Tests.{and_left, first_none, or_none}
 use Rattle.format.specs.Rewind.{bytes_fault, read_record, read_stores}
 use Rattle.lines.specs.Listing.{fits_listing, list_fault, study_lines, refused_line, listing}
-use Rattle.lines.specs.Inner.Places.{TextPut}
 
 module _ (b : List ℕ) (ok : list_fault b ≡ 0) where
   parts : (bytes_fault b ≡ 0) × (fits_listing (read_record b) ≡ true)
@@ -32,17 +30,10 @@ module _ (b : List ℕ) (ok : list_fault b ≡ 0) where
   few = leb-true (cells (read_record b)) 64 (and_left (leb (cells (read_record b)) 64) (leb (read_record b).pole_slots 1) parts.1)
 
 -- ---- the two ends
-abbrev pub Listed : (b l o : List ℕ) → ℕ → Type 0
-Listed b l o n = (n ≡ length (listing b)) × (n ≤ 8717) × (o ≡ put l 0 (listing b))
+pub refused_listing : (b : List ℕ) (f : Refusal) → number f ≡ list_fault b → refused_line (number f) ≡ listing b
+unfolding listing
+refused_listing b f e = rw (← e, ne_eqb (number f) 0 (λ z. let h = numbered f in omega (arith, h)))
 
-module _ (b l o : List ℕ) (n most : ℕ) (small : most ≤ 8717) where
-  listed : (t : List ℕ) → t ≡ listing b → TextPut most l 0 t o n → Listed b l o n
-  listed t e w = (w.ends ∙ omega (arith, ap length e), omega (arith, w.short), w.is ∙ ap (put l 0) e)
-
-  pub listed_refused : (f : Refusal) → number f ≡ list_fault b → TextPut most l 0 (refused_line (number f)) o n → Listed b l o n
-  unfolding listing
-  listed_refused f e w = listed (refused_line (number f)) (rw (← e, ne_eqb (number f) 0 (λ z. let h = numbered f in omega (arith, h)))) w
-
-  pub listed_study : 0 ≡ list_fault b → TextPut most l 0 (study_lines (read_record b) (read_stores b)) o n → Listed b l o n
-  unfolding listing
-  listed_study e w = listed (study_lines (read_record b) (read_stores b)) (rw (← e)) w
+pub study_listing : (b : List ℕ) → 0 ≡ list_fault b → study_lines (read_record b) (read_stores b) ≡ listing b
+unfolding listing
+study_listing b e = rw (← e)

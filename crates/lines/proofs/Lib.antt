@@ -1,8 +1,7 @@
 -- Laws that the proofs of the functions cite.
 mod Numerals
 mod Written
-mod Rows
-mod Heads
+mod Words
 mod Judged
 mod Study
 -- Document 01's lines, worked.

@@ -10,7 +10,7 @@ use lib.Ieee.{Float, binary64, of_bits, nan}
 use Rattle.codec.specs.Lists.{part}
 use Rattle.codec.specs.Bytes.{unle, elements_of, floats_of, bytes_fit, bits}
 use Rattle.codec.proofs.Lists.{part_drop}
-use Rattle.cells.specs.Cells.{cell_index}
+use Rattle.cells.specs.Cells.{joined, cell_index}
 use Rattle.cells.specs.Reading.{block_end}
 use Rattle.cells.proofs.Blocks.{joined_same}
 use Rattle.grid.specs.declared.Record.{Record}
@@ -24,9 +24,12 @@ use Rattle.format.proofs.Again.{read_none, read_long}
 use Rattle.saves.specs.Inner.Places.{stores_from, stores_at}
 use Rattle.saves.proofs.Taken.{all_bytes, stores_read}
 use Rattle.lines.specs.declared.fields.Fields.{Fields}
+use Rattle.lines.specs.declared.fields.Saved.{Saved}
+use Rattle.lines.specs.declared.text.Text.{Text}
 use Rattle.lines.specs.Listing.{cell_line, cell_lines, head_line, study_lines, list_fault}
-use Rattle.lines.specs.Inner.Places.{TextPut, Lies, bits_at, cell_text, row_text, plane_text, grid_text, fields_of}
-use Rattle.lines.proofs.Written.{wrote_then, wrote_wider, turn_fits}
+use Rattle.lines.specs.Inner.Places.{Puts, Lies, bits_at, fields_of}
+use Rattle.lines.specs.Inner.Rows.{row_text, plane_text, grid_text}
+use Rattle.lines.proofs.Written.{wrote_then, wrote_wider, wrote_as, turn_fits}
 use Rattle.lines.proofs.Judged.{no_fault, few}
 
 -- ---- one number
@@ -59,10 +62,20 @@ place nx ny i j k = omega (arith, mul_comm nx j, mul_comm (nx * ny) k)
 inside : (nx ny nz i j k : ℕ) → i < nx → j < ny → k < nz → nx * ny * k + nx * j + i < nx * ny * nz
 inside nx ny nz i j k hi hj hk = omega (arith, turn_fits nx ny j hj, turn_fits (nx * ny) nz k hk)
 
+-- the cells' lines by the save's parts
+abbrev pub grid_of : (b : List ℕ) → Fields → (nx ny nz : ℕ) → List ℕ
+grid_of b f nx ny nz =
+    joined nz (λ k. joined ny (λ j. joined nx (λ i.
+    let m = nx * ny * k + nx * j + i in cell_line i j k (λ c. bits_at b f.electric f.cells c m) (λ c. bits_at b f.magnetic f.cells c m))))
+
+pub grid_told : (s : Saved) → grid_text s ≡ grid_of s.bytes.now s.at s.nx s.ny s.nz
+unfolding grid_text plane_text row_text
+grid_told s = refl
+
 grid_same : (b : List ℕ) (f : Fields) (nx ny nz : ℕ) (e h : List Float) → f.cells ≡ nx * ny * nz → e ≡ floats_of (3 * f.cells) (drop f.electric b) →
     h ≡ floats_of (3 * f.cells) (drop f.magnetic b) →
-    grid_text b f nx ny nz ≡ cell_lines nx ny nz (λ c m. bits (number_at e f.cells c m)) (λ c m. bits (number_at h f.cells c m))
-unfolding grid_text plane_text row_text cell_lines
+    grid_of b f nx ny nz ≡ cell_lines nx ny nz (λ c m. bits (number_at e f.cells c m)) (λ c m. bits (number_at h f.cells c m))
+unfolding cell_lines
 grid_same b f nx ny nz e h n pe ph =
     joined_same nz _ _ (λ k hk. joined_same ny _ _ (λ j hj. joined_same nx _ _ (λ i hi. one i j k (omega (arith, n, inside nx ny nz i j k hi hj hk)))))
   where
@@ -71,7 +84,7 @@ grid_same b f nx ny nz e h n pe ph =
     at s from p m l c hc = number_at_lem b from f.cells c m hc l ∙ ap (λ (t : List Float). bits (number_at t f.cells c m)) (sym p)
 
     one : (i j k : ℕ) → nx * ny * k + nx * j + i < f.cells →
-        cell_text b f i j k (nx * ny * k + nx * j + i)
+        cell_line i j k (λ c. bits_at b f.electric f.cells c (nx * ny * k + nx * j + i)) (λ c. bits_at b f.magnetic f.cells c (nx * ny * k + nx * j + i))
         ≡ cell_line i j k (λ c. bits (number_at e f.cells c (cell_index nx ny i j k))) (λ c. bits (number_at h f.cells c (cell_index nx ny i j k)))
     one i j k l =
         let m : ℕ = nx * ny * k + nx * j + i in
@@ -101,11 +114,11 @@ module _ (b : List ℕ) where
       sym (ap (λ (s : Stores). s.magnetic) (stores_read b)) ∙ ap (λ (k : ℕ). floats_of (3 * n) (drop k b)) e
 
   study_lines_lem : (r : Record) → r ≡ read_record b →
-      head_line r.nx r.ny r.nz r.clock.steps r.material_count ++ grid_text b (fields_of (from r) r) r.nx r.ny r.nz ≡ study_lines (read_record b) (read_stores b)
+      head_line r.nx r.ny r.nz r.clock.steps r.material_count ++ grid_of b (fields_of (from r) r) r.nx r.ny r.nz ≡ study_lines (read_record b) (read_stores b)
   unfolding study_lines
   study_lines_lem r own =
       let q = read_record b in
-      ap (λ (t : Record). head_line t.nx t.ny t.nz t.clock.steps t.material_count ++ grid_text b (fields_of (from t) t) t.nx t.ny t.nz) own
+      ap (λ (t : Record). head_line t.nx t.ny t.nz t.clock.steps t.material_count ++ grid_of b (fields_of (from t) t) t.nx t.ny t.nz) own
       ∙ ap (λ (t : List ℕ). head_line q.nx q.ny q.nz q.clock.steps q.material_count ++ t)
       (grid_same b (fields_of (from q) q) q.nx q.ny q.nz (read_stores b).electric (read_stores b).magnetic refl electric_at magnetic_at_lem)
 
@@ -143,9 +156,8 @@ module _ (b : List ℕ) where
       pub study_lies : Lies f (length b)
       study_lies = subst (λ (x : Fields). Lies x (length b)) (sym at) (read_lies small (no_fault b ok) r own study_few)
 
-      pub study_wrote : (l m o : List ℕ) (p q : ℕ) → TextPut 77 l 0 (head_line r.nx r.ny r.nz r.clock.steps r.material_count) m p →
-          TextPut (135 * r.nx * r.ny * r.nz) m p (grid_text b f r.nx r.ny r.nz) o q → TextPut 8717 l 0 (study_lines (read_record b) (read_stores b)) o q
-      study_wrote l m o p q v w =
-          let grid = subst (λ (x : Fields). TextPut (135 * r.nx * r.ny * r.nz) m p (grid_text b x r.nx r.ny r.nz) o q) at w in
-          subst (λ (t : List ℕ). TextPut 8717 l 0 t o q) (study_lines_lem r own)
-          (wrote_wider _ 8717 l o 0 q _ (omega (arith, study_most)) (wrote_then 77 _ l m o 0 p q _ _ v grid))
+      pub study_wrote : {l m o : Text} → Puts 77 l (head_line r.nx r.ny r.nz r.clock.steps r.material_count) m →
+          Puts (135 * r.nx * r.ny * r.nz) m (grid_of b f r.nx r.ny r.nz) o → Puts 8717 l (study_lines (read_record b) (read_stores b)) o
+      study_wrote {l} {m} {o} v w =
+          let grid = subst (λ (x : Fields). Puts (135 * r.nx * r.ny * r.nz) m (grid_of b x r.nx r.ny r.nz) o) at w in
+          wrote_as (study_lines_lem r own) (wrote_wider (omega (arith, study_most)) (wrote_then v grid))

@@ -4,9 +4,9 @@ ghost use Rattle.std.specs.Float.{binary64};
 ghost use Rattle.std.specs.Float.Ieee.{of_bits};
 ghost use Rattle.codec.specs.Lists.{part};
 ghost use Rattle.codec.specs.Bytes.{unle, bits};
-ghost use Rattle.lines.specs.Inner.Places.{TextPut, Lies, three_text, cell_text, row_text, plane_text, grid_text};
+ghost use Rattle.lines.specs.Inner.Places.{Room, Puts, Lies, three_text};
 
-use crate::text;
+use crate::text::{BLANK, NEWLINE, Text};
 use codec::{floats, numbers};
 
 // Where the electric and the magnetic numbers begin among the bytes, and how many cells there are.
@@ -17,6 +17,18 @@ pub struct Fields {
     pub cells: usize,
 }
 
+// A save's bytes, where its fields lie among them, and its sizes.
+#[derive(Clone, Copy)]
+pub struct Saved<'a> {
+    pub bytes: &'a [u8],
+    pub at: Fields,
+    pub nx: usize,
+    pub ny: usize,
+    pub nz: usize,
+    ghost lies: { Lies at (length bytes.now) },
+    ghost sizes: { (nx ≤ 512) × (ny ≤ 512) × (nz ≤ 512) × (nx * ny * nz ≤ at.cells) },
+}
+
 // The bits of the float whose eight bytes stand at `at`.
 fn bits_at(b: &[u8], at: usize) -> u64
     requires { at + 8 ≤ length b.now }
@@ -25,104 +37,57 @@ fn bits_at(b: &[u8], at: usize) -> u64
     floats::bits_of(floats::float_of(numbers::get_u64(b, at)))
 }
 
-// The three numbers of the cell at place m, of a store that begins at `from`; the last one ended by `end`.
-fn put_three(
-    out: &mut [u8],
-    at: usize,
-    b: &[u8],
-    from: usize,
-    cells: usize,
-    m: usize,
-    end: u8,
-) -> usize
-    requires { (from + 24 * cells ≤ length b.now) × (cells ≤ 64) × (m < cells) × (at + 51 ≤ length out.old) }
-    ensures { TextPut 51 out.old at (three_text b.now from cells m end) out.new result }
-{
-    let x = bits_at(b, from + 8 * m);
-    let y = bits_at(b, from + 8 * (cells + m));
-    let z = bits_at(b, from + 8 * (2 * cells + m));
-    let p = text::put_bits(out, at, x, text::BLANK);
-    let q = text::put_bits(out, p, y, text::BLANK);
-    text::put_bits(out, q, z, end)
-}
+impl Saved<'_> {
+    ghost use Rattle.lines.specs.Inner.Rows.{cell_text, row_text, plane_text, grid_text};
 
-fn put_cell(
-    out: &mut [u8],
-    at: usize,
-    b: &[u8],
-    f: Fields,
-    i: usize,
-    j: usize,
-    k: usize,
-    m: usize,
-) -> usize
-    requires { Lies f (length b.now) × (i < 512) × (j < 512) × (k < 512) × (m < f.cells) × (at + 135 ≤ length out.old) }
-    ensures { TextPut 135 out.old at (cell_text b.now f i j k m) out.new result }
-{
-    let p = text::put_number(out, at, i as u32, text::BLANK);
-    let q = text::put_number(out, p, j as u32, text::BLANK);
-    let s = text::put_number(out, q, k as u32, text::BLANK);
-    let t = put_three(out, s, b, f.electric, f.cells, m, text::BLANK);
-    put_three(out, t, b, f.magnetic, f.cells, m, text::NEWLINE)
-}
-
-// A row along x, whose first cell is at place m.
-fn put_row(
-    out: &mut [u8],
-    at: usize,
-    b: &[u8],
-    f: Fields,
-    nx: usize,
-    j: usize,
-    k: usize,
-    m: usize,
-) -> usize
-    requires { Lies f (length b.now) × (nx ≤ 512) × (j < 512) × (k < 512) × (m + nx ≤ f.cells) × (at + 135 * nx ≤ length out.old) }
-    ensures { TextPut (135 * nx) out.old at (row_text b.now f nx j k m) out.new result }
-{
-    let mut p = at;
-    for i in 0..nx {
-        p = put_cell(out, p, b, f, i, j, k, m + i);
+    // The three numbers of the cell at place m, of a store that begins at `from`; the last one ended by `end`.
+    fn put_three(&self, text: &mut Text, from: usize, m: usize, end: u8)
+        requires { (from + 24 * self.now.at.cells ≤ length self.now.bytes.now) × (m < self.now.at.cells) × Room 51 text.old }
+        ensures { Puts 51 text.old (three_text self.now.bytes.now from self.now.at.cells m end) text.new }
+    {
+        let n = self.at.cells;
+        text.put_bits(bits_at(self.bytes, from + 8 * m), BLANK);
+        text.put_bits(bits_at(self.bytes, from + 8 * (n + m)), BLANK);
+        text.put_bits(bits_at(self.bytes, from + 8 * (2 * n + m)), end);
     }
-    p
-}
 
-// A plane across z, whose first cell is at place m.
-fn put_plane(
-    out: &mut [u8],
-    at: usize,
-    b: &[u8],
-    f: Fields,
-    nx: usize,
-    ny: usize,
-    k: usize,
-    m: usize,
-) -> usize
-    requires { Lies f (length b.now) × (nx ≤ 512) × (ny ≤ 512) × (k < 512) × (m + nx * ny ≤ f.cells) × (at + 135 * nx * ny ≤ length out.old) }
-    ensures { TextPut (135 * nx * ny) out.old at (plane_text b.now f nx ny k m) out.new result }
-{
-    let mut p = at;
-    for j in 0..ny {
-        p = put_row(out, p, b, f, nx, j, k, m + nx * j);
+    fn put_cell(&self, text: &mut Text, i: usize, j: usize, k: usize, m: usize)
+        requires { (i < self.now.nx) × (j < self.now.ny) × (k < self.now.nz) × (m < self.now.at.cells) × Room 135 text.old }
+        ensures { Puts 135 text.old (cell_text self.now i j k m) text.new }
+    {
+        text.put_number(i as u32, BLANK);
+        text.put_number(j as u32, BLANK);
+        text.put_number(k as u32, BLANK);
+        self.put_three(text, self.at.electric, m, BLANK);
+        self.put_three(text, self.at.magnetic, m, NEWLINE);
     }
-    p
-}
 
-pub fn put_grid(
-    out: &mut [u8],
-    at: usize,
-    b: &[u8],
-    f: Fields,
-    nx: usize,
-    ny: usize,
-    nz: usize,
-) -> usize
-    requires { Lies f (length b.now) × (nx ≤ 512) × (ny ≤ 512) × (nz ≤ 512) × (nx * ny * nz ≤ f.cells) × (at + 135 * nx * ny * nz ≤ length out.old) }
-    ensures { TextPut (135 * nx * ny * nz) out.old at (grid_text b.now f nx ny nz) out.new result }
-{
-    let mut p = at;
-    for k in 0..nz {
-        p = put_plane(out, p, b, f, nx, ny, k, nx * ny * k);
+    // A row along x, whose first cell is at place m.
+    fn put_row(&self, text: &mut Text, j: usize, k: usize, m: usize)
+        requires { (j < self.now.ny) × (k < self.now.nz) × (m + self.now.nx ≤ self.now.at.cells) × Room (135 * self.now.nx) text.old }
+        ensures { Puts (135 * self.now.nx) text.old (row_text self.now j k m) text.new }
+    {
+        for i in 0..self.nx {
+            self.put_cell(text, i, j, k, m + i);
+        }
     }
-    p
+
+    // A plane across z, whose first cell is at place m.
+    fn put_plane(&self, text: &mut Text, k: usize, m: usize)
+        requires { (k < self.now.nz) × (m + self.now.nx * self.now.ny ≤ self.now.at.cells) × Room (135 * self.now.nx * self.now.ny) text.old }
+        ensures { Puts (135 * self.now.nx * self.now.ny) text.old (plane_text self.now k m) text.new }
+    {
+        for j in 0..self.ny {
+            self.put_row(text, j, k, m + self.nx * j);
+        }
+    }
+
+    pub fn put_grid(&self, text: &mut Text)
+        requires { Room (135 * self.now.nx * self.now.ny * self.now.nz) text.old }
+        ensures { Puts (135 * self.now.nx * self.now.ny * self.now.nz) text.old (grid_text self.now) text.new }
+    {
+        for k in 0..self.nz {
+            self.put_plane(text, k, self.nx * self.ny * k);
+        }
+    }
 }

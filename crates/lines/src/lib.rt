@@ -10,12 +10,13 @@ ghost use Rattle.codec.specs.Lists.{put};
 ghost use Rattle.grid.specs.Inner.Sound.{Sound};
 ghost use Rattle.format.specs.Rewind.{read_record, read_stores};
 ghost use Rattle.lines.specs.Listing.{fits_listing, list_fault, head_line, study_lines, refused_line, listing};
-ghost use Rattle.lines.specs.Inner.Places.{TextPut, sizes_text, fields_of};
+ghost use Rattle.lines.specs.Inner.Places.{Room, Puts, sizes_text, fields_of};
 
-use fields::Fields;
+use fields::{Fields, Saved};
 use grid::Record;
 use refusals::{Refusal, require};
 use saves::gets;
+use text::{BLANK, NEWLINE, Text};
 
 pub const MOST_BYTES: usize = 24576;
 
@@ -47,33 +48,33 @@ fn listed(b: &[u8]) -> Result<Record, Refusal>
     Ok(r)
 }
 
-fn put_refusal(out: &mut [u8], f: Refusal) -> usize
-    requires { 19 ≤ length out.old }
-    ensures { TextPut 19 out.old 0 (refused_line (number f)) out.new result }
+fn put_refusal(text: &mut Text, f: Refusal)
+    requires { Room 19 text.old }
+    ensures { Puts 19 text.old (refused_line (number f)) text.new }
 {
-    let p = text::put_word(out, 0, b"refused", text::BLANK);
-    text::put_number(out, p, u32::from(f), text::NEWLINE)
+    text.put_word(b"refused", BLANK);
+    text.put_number(u32::from(f), NEWLINE);
 }
 
-fn put_sizes(out: &mut [u8], nx: u32, ny: u32, nz: u32) -> usize
-    requires { 39 ≤ length out.old }
-    ensures { TextPut 39 out.old 0 (sizes_text nx ny nz) out.new result }
+fn put_sizes(text: &mut Text, r: Record)
+    requires { Sound r × Room 39 text.old }
+    ensures { Puts 39 text.old (sizes_text r.nx r.ny r.nz) text.new }
 {
-    let p = text::put_word(out, 0, b"study", text::BLANK);
-    let q = text::put_number(out, p, nx, text::BLANK);
-    let s = text::put_number(out, q, ny, text::BLANK);
-    text::put_number(out, s, nz, text::BLANK)
+    text.put_word(b"study", BLANK);
+    text.put_number(r.nx as u32, BLANK);
+    text.put_number(r.ny as u32, BLANK);
+    text.put_number(r.nz as u32, BLANK);
 }
 
-fn put_head(out: &mut [u8], nx: u32, ny: u32, nz: u32, steps: u32, materials: u32) -> usize
-    requires { 77 ≤ length out.old }
-    ensures { TextPut 77 out.old 0 (head_line nx ny nz steps materials) out.new result }
+fn put_head(text: &mut Text, r: Record)
+    requires { Sound r × Room 77 text.old }
+    ensures { Puts 77 text.old (head_line r.nx r.ny r.nz r.clock.steps r.material_count) text.new }
 {
-    let p = put_sizes(out, nx, ny, nz);
-    let q = text::put_word(out, p, b"steps", text::BLANK);
-    let s = text::put_number(out, q, steps, text::BLANK);
-    let t = text::put_word(out, s, b"materials", text::BLANK);
-    text::put_number(out, t, materials, text::NEWLINE)
+    put_sizes(text, r);
+    text.put_word(b"steps", BLANK);
+    text.put_number(r.clock.steps, BLANK);
+    text.put_word(b"materials", BLANK);
+    text.put_number(r.material_count as u32, NEWLINE);
 }
 
 // Where a save of this study has the fields, whose records of stores begin at `from`: after CI and CM, each record with six bytes before it.
@@ -89,21 +90,30 @@ fn fields_of(from: usize, r: Record) -> Fields
     }
 }
 
-fn put_study(out: &mut [u8], b: &[u8], r: Record) -> usize
-    requires { (list_fault b.now ≡ 0) × (r ≡ read_record b.now) × (8717 ≤ length out.old) }
-    ensures { TextPut 8717 out.old 0 (study_lines (read_record b.now) (read_stores b.now)) out.new result }
+fn put_study(text: &mut Text, b: &[u8], r: Record)
+    requires { (list_fault b.now ≡ 0) × (r ≡ read_record b.now) × Room 8717 text.old }
+    ensures { Puts 8717 text.old (study_lines (read_record b.now) (read_stores b.now)) text.new }
 {
     let from = gets::stores_from(b, r.material_count);
-    let f = fields_of(from, r);
-    let p = put_head(
-        out,
-        r.nx as u32,
-        r.ny as u32,
-        r.nz as u32,
-        r.clock.steps,
-        r.material_count as u32,
-    );
-    fields::put_grid(out, p, b, f, r.nx, r.ny, r.nz)
+    let saved = Saved {
+        bytes: b,
+        at: fields_of(from, r),
+        nx: r.nx,
+        ny: r.ny,
+        nz: r.nz,
+    };
+    put_head(text, r);
+    saved.put_grid(text);
+}
+
+fn put_listing(text: &mut Text, b: &[u8])
+    requires { Room 8717 text.old }
+    ensures { Puts 8717 text.old (listing b.now) text.new }
+{
+    match listed(b) {
+        Ok(r) => put_study(text, b, r),
+        Err(f) => put_refusal(text, f),
+    }
 }
 
 // Writes the listing of a save's bytes to the front of the lent room, and answers how long it is.
@@ -111,8 +121,7 @@ pub fn list(b: &[u8], out: &mut [u8]) -> usize
     requires { 8717 ≤ length out.old }
     ensures { (result ≡ length (listing b.now)) × (result ≤ 8717) × (out.new ≡ put out.old 0 (listing b.now)) }
 {
-    match listed(b) {
-        Ok(r) => put_study(out, b, r),
-        Err(f) => put_refusal(out, f),
-    }
+    let mut text = Text { out, at: 0 };
+    put_listing(&mut text, b);
+    text.at
 }

@@ -1,8 +1,7 @@
-// Text at a place of the lent bytes: digits, numbers and words, each with a blank or a newline after it.
-ghost use Rattle.std.specs.Prelude.{◌≡◌, ◌+◌, ◌≤◌, ◌<◌, length};
-ghost use Rattle.codec.specs.Lists.{put};
+// Text into lent bytes: digits, numbers and words, each with a blank or a newline after it.
+ghost use Rattle.std.specs.Prelude.{◌≡◌, ◌+◌, ◌<◌, [], ◌∷◌, length};
 ghost use Rattle.lines.specs.Listing.{glyph, hex_digits, hex, decimal, ended};
-ghost use Rattle.lines.specs.Inner.Places.{TextPut};
+ghost use Rattle.lines.specs.Inner.Places.{Room, Puts};
 
 pub const BLANK: u8 = 32;
 
@@ -19,57 +18,68 @@ fn digit(d: u32) -> u8
     }
 }
 
-// The last w hex digits of n.
-fn put_hex(out: &mut [u8], at: usize, w: usize, n: u64)
-    requires { at + w ≤ length out.old }
-    ensures { out.new ≡ put out.old at (hex_digits w n) }
-{
-    if 0 < w {
-        put_hex(out, at, w - 1, n / 16);
-        out[at + (w - 1)] = digit((n % 16) as u32);
+// Lent bytes, and the place after the text so far.
+#[derive(Drop)]
+pub struct Text<'a> {
+    pub out: &'a mut [u8],
+    pub at: usize,
+}
+
+impl Text<'_> {
+    fn put(&mut self, byte: u8)
+        requires { Room 1 self.old }
+        ensures { Puts 1 self.old (byte ∷ []) self.new }
+    {
+        self.out[self.at] = byte;
+        self.at += 1;
     }
-}
 
-// n in decimal; the place after it.
-fn put_decimal(out: &mut [u8], at: usize, n: u32) -> usize
-    requires { at + length (decimal n) ≤ length out.old }
-    ensures { (result ≡ at + length (decimal n)) × (out.new ≡ put out.old at (decimal n)) }
-{
-    if n < 10 {
-        out[at] = digit(n);
-        return at + 1;
+    // The last w hex digits of n.
+    fn put_hex(&mut self, w: usize, n: u64)
+        requires { Room w self.old }
+        ensures { Puts w self.old (hex_digits w n) self.new }
+    {
+        if 0 < w {
+            self.put_hex(w - 1, n / 16);
+            self.put(digit((n % 16) as u32));
+        }
     }
-    let p = put_decimal(out, at, n / 10);
-    out[p] = digit(n % 10);
-    p + 1
-}
 
-pub fn put_number(out: &mut [u8], at: usize, n: u32, end: u8) -> usize
-    requires { at + 11 ≤ length out.old }
-    ensures { TextPut 11 out.old at (ended end (decimal n)) out.new result }
-{
-    let p = put_decimal(out, at, n);
-    out[p] = end;
-    p + 1
-}
-
-pub fn put_bits(out: &mut [u8], at: usize, n: u64, end: u8) -> usize
-    requires { at + 17 ≤ length out.old }
-    ensures { TextPut 17 out.old at (ended end (hex n)) out.new result }
-{
-    put_hex(out, at, 16, n);
-    out[at + 16] = end;
-    at + 17
-}
-
-pub fn put_word(out: &mut [u8], at: usize, word: &[u8], end: u8) -> usize
-    requires { at + (length word.now + 1) ≤ length out.old }
-    ensures { TextPut (length word.now + 1) out.old at (ended end word.now) out.new result }
-{
-    let n = word.len();
-    for i in 0..n {
-        out[at + i] = word[i];
+    fn put_decimal(&mut self, n: u32)
+        requires { Room (length (decimal n)) self.old }
+        ensures { Puts (length (decimal n)) self.old (decimal n) self.new }
+    {
+        if n < 10 {
+            self.put(digit(n));
+        } else {
+            self.put_decimal(n / 10);
+            self.put(digit(n % 10));
+        }
     }
-    out[at + n] = end;
-    at + n + 1
+
+    pub fn put_number(&mut self, n: u32, end: u8)
+        requires { Room 11 self.old }
+        ensures { Puts 11 self.old (ended end (decimal n)) self.new }
+    {
+        self.put_decimal(n);
+        self.put(end);
+    }
+
+    pub fn put_bits(&mut self, n: u64, end: u8)
+        requires { Room 17 self.old }
+        ensures { Puts 17 self.old (ended end (hex n)) self.new }
+    {
+        self.put_hex(16, n);
+        self.put(end);
+    }
+
+    pub fn put_word(&mut self, word: &[u8], end: u8)
+        requires { Room (length word.now + 1) self.old }
+        ensures { Puts (length word.now + 1) self.old (ended end word.now) self.new }
+    {
+        for byte in word.iter() {
+            self.put(*byte);
+        }
+        self.put(end);
+    }
 }

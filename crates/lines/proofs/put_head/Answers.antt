@@ -1,7 +1,9 @@
-use Rattle.lines.proofs.Heads.{head_wrote}
+use Rattle.lines.proofs.Words.{head_words}
+use Rattle.lines.proofs.Written.{wrote_then, wrote_as}
 use Rattle.lines.proofs.put_head.Goals as goal
 
 pub returns : goal.returns
 returns c =
-    let a = c.args in
-    head_wrote a.nx a.ny a.nz a.steps a.materials _ _ _ _ _ _ _ _ _ _ _ c.put_sizes-p.ensures c.put_word-q.ensures c.put_number-s.ensures c.put_word-t.ensures c.put_number.ensures
+    let r = c.args.r in
+    let steps = wrote_then (wrote_then c.put_sizes.ensures c.put_word.ensures) c.put_number.ensures in
+    wrote_as (head_words r.nx r.ny r.nz r.clock.steps r.material_count) (wrote_then (wrote_then steps c.put_word-2.ensures) c.put_number-2.ensures)

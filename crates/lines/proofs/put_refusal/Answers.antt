@@ -1,5 +1,7 @@
-use Rattle.lines.proofs.Heads.{refusal_wrote}
+use Rattle.lines.specs.Listing.{line, refused_line}
+use Rattle.lines.proofs.Written.{wrote_then}
 use Rattle.lines.proofs.put_refusal.Goals as goal
 
 pub returns : goal.returns
-returns c = rw (← c.from.ensures) (refusal_wrote _ _ _ _ _ _ c.put_word-p.ensures c.put_number.ensures)
+unfolding refused_line line
+returns c = rw (← c.from.ensures) (wrote_then c.put_word.ensures c.put_number.ensures)

@@ -1,22 +1,28 @@
--- What the contracts of the inner functions of lines cite: text as code writes it, from a place on, and a cell's numbers by their places among a save's
--- bytes. Definitions only.
+-- What the contracts of the inner functions of lines cite: text as code writes it, after what stands already, and a cell's numbers by their places among
+-- a save's bytes. Definitions only.
 use Rattle.std.specs.Prelude.{ℕ, ◌+◌, ◌*◌, ◌≤◌, ◌≡◌, List, ◌++◌, length}
 use Rattle.std.specs.Float.{binary64}
 use Rattle.std.specs.Float.Ieee.{of_bits}
 use Rattle.codec.specs.Lists.{put, part}
 use Rattle.codec.specs.Bytes.{unle, bits}
-use Rattle.cells.specs.Cells.{joined}
 use Rattle.grid.specs.declared.Record.{Record}
 use Rattle.grid.specs.Stores.{cells}
 use Rattle.lines.specs.declared.fields.Fields.{Fields}
-use Rattle.lines.specs.Listing.{decimal, blank, ended, word_study, hex, cell_line}
+use Rattle.lines.specs.declared.text.Text.{Text}
+use Rattle.lines.specs.Listing.{decimal, blank, ended, word_study, hex}
 
--- new is old with a text, of at most that many bytes, from `at` up to `next`
-pub record TextPut (most : ℕ) (old : List ℕ) (at : ℕ) (text new : List ℕ) (next : ℕ) : Type 0 where
-  pub is : new ≡ put old at text
-  pub ends : next ≡ at + length text
-  pub short : next ≤ at + most
-  pub room : next ≤ length old
+-- bytes left after the text so far
+abbrev pub Room : ℕ → Text → Type 0
+Room n t = t.at + n ≤ length t.out.now
+
+-- new is old with a text of at most that many bytes after it, in the same lent bytes
+pub record Puts (most : ℕ) (old : Text) (text : List ℕ) (new : Text) : Type 0 where
+  pub same : new.out.ghost_name ≡ old.out.ghost_name
+  pub is : new.out.now ≡ put old.out.now old.at text
+  pub ends : new.at ≡ old.at + length text
+  pub short : length text ≤ most
+  pub room : new.at ≤ length old.out.now
+  pub long : length new.out.now ≡ length old.out.now
 
 -- the bits of number c of the cell at place m, in a store of n cells whose bytes begin at `from`
 abbrev pub bits_at : (b : List ℕ) → (from n c m : ℕ) → ℕ
@@ -25,18 +31,6 @@ bits_at b from n c m = bits (of_bits binary64 (unle (part b (from + 8 * (c * n +
 -- the three numbers of a cell in one store
 abbrev pub three_text : (b : List ℕ) → (from n m end : ℕ) → List ℕ
 three_text b from n m end = ended blank (hex (bits_at b from n 0 m)) ++ ended blank (hex (bits_at b from n 1 m)) ++ ended end (hex (bits_at b from n 2 m))
-
-abbrev pub cell_text : (b : List ℕ) → Fields → (i j k m : ℕ) → List ℕ
-cell_text b f i j k m = cell_line i j k (λ c. bits_at b f.electric f.cells c m) (λ c. bits_at b f.magnetic f.cells c m)
-
-unfoldable pub row_text : (b : List ℕ) → Fields → (nx j k m : ℕ) → List ℕ
-row_text b f nx j k m = joined nx (λ i. cell_text b f i j k (m + i))
-
-unfoldable pub plane_text : (b : List ℕ) → Fields → (nx ny k m : ℕ) → List ℕ
-plane_text b f nx ny k m = joined ny (λ j. row_text b f nx j k (m + nx * j))
-
-unfoldable pub grid_text : (b : List ℕ) → Fields → (nx ny nz : ℕ) → List ℕ
-grid_text b f nx ny nz = joined nz (λ k. plane_text b f nx ny k (nx * ny * k))
 
 -- the head's line up to the sizes
 abbrev pub sizes_text : (nx ny nz : ℕ) → List ℕ

@@ -16,11 +16,11 @@ use Rattle.fdtd.specs.Inner.Rows.{side_memory}
 use Rattle.fdtd.specs.Inner.Span.{Span, Two}
 use Rattle.fdtd.proofs.Spans.{span_as}
 use Rattle.fdtd.proofs.Stands.{Stands}
-use Rattle.fdtd.proofs.Components.{at_curl, Memories, idle_mem, moved_mem}
+use Rattle.fdtd.proofs.Components.{at_curl, idle_mem, moved_mem}
 use Rattle.electric.specs.declared.row.Change.{Change}
 use Rattle.electric.specs.declared.row.Factors.{Factors}
 use Rattle.cells.specs.Box.{within}
-use Rattle.electric.specs.Inner.Row.{slope_of, dp_of, change_at, field_of, field_e}
+use Rattle.electric.specs.Inner.Row.{slope_of, dp_of, change_at, field_of, field_e, Moved}
 use Rattle.electric.proofs.Slopes.{within_in, within_low, within_high}
 use Rattle.electric.proofs.Edges.{pick_stop}
 
@@ -76,14 +76,8 @@ module _ (A B C : Axis) (count : ℕ) (h tab mem : List Float) (q i onB onC down
   stop_e g a b dt dp e = pick_stop _ _ _ g
 
 module _ (A B C : Axis) (count : ℕ) (h tab mem : List Float) (f : Factors) (poles e : List Float) (w : Change) (q n : ℕ) (onB onC downB down_c : ℕ → ℕ) where
-  abbrev pub Moved : List Float → List Float → Type 0
-  Moved e' mem' =
-      Span (λ i. field_e A B C count h tab mem (q + i) (onB i) (onC i) (downB i) (down_c i)
-      (get_or f.ca i nan) (get_or f.cb i nan) w.dt (dp_of w poles (A.at + (q + i))) e) e (A.at + q) 0 n e'
-      × Memories A B C count h tab mem q n onB onC downB (λ i. q + i) down_c (λ i. q + i) (λ i. moves_e B C (onB i) (onC i)) mem'
-
   -- nothing moves
-  pub idle : {e' : List Float} → ((i : ℕ) → moves_e B C (onB i) (onC i) ≡ false) → Span (λ i. zero_f) e (A.at + q) 0 n e' → Moved e' mem
+  pub idle : {e' : List Float} → ((i : ℕ) → moves_e B C (onB i) (onC i) ≡ false) → Span (λ i. zero_f) e (A.at + q) 0 n e' → Moved A B C count h tab mem f poles e w q n onB onC downB down_c e' mem
   idle g s = (
     span_as _ _ _ _ s (λ i k l. stop_e A B C count h tab mem q i _ _ _ _ (g i) _ _ _ _ e),
     idle_mem A B C count h tab mem q n onB onC downB (λ i. q + i) down_c (λ i. q + i) (λ i. moves_e B C (onB i) (onC i)) g,
@@ -96,7 +90,7 @@ module _ (A B C : Axis) (count : ℕ) (h tab mem : List Float) (f : Factors) (po
       (go : (i : ℕ) → i < n → moves_e B C (onB i) (onC i) ≡ within a z i)
       (ee : Span (field_of b c d h tab mem f poles e n a z (A.at + q)) e (A.at + q) 0 n e')
       (mm : Two (λ i. side_memory b tab mem i (slope_of b h n i)) (λ i. side_memory c tab mem i (slope_of c h n i)) mem b.mem c.mem a z mem') where
-    pub moved : Moved e' mem'
+    pub moved : Moved A B C count h tab mem f poles e w q n onB onC downB down_c e' mem'
     moved = (
       span_as _ _ _ _ ee (λ i u l. at_e A B C count h tab mem q i _ _ _ _ b c w d n a z f poles e ed (sb i) (sc i) (go i l)),
       moved_mem A B C count h tab mem q n onB onC downB (λ i. q + i) down_c (λ i. q + i) (λ i. moves_e B C (onB i) (onC i)) b c (slope_of b h n) (slope_of c h n) a z mem' most room

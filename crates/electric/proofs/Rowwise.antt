@@ -17,9 +17,8 @@ use Rattle.fdtd.proofs.Components.{curl_own, b_own, c_own}
 use Rattle.fdtd.proofs.Lines.{Right, line_law}
 use Rattle.electric.specs.declared.row.Change.{Change}
 use Rattle.electric.specs.declared.row.Factors.{Factors}
-use Rattle.electric.specs.Inner.Row.{dp_of, field_e, first_e, second_e}
+use Rattle.electric.specs.Inner.Row.{dp_of, field_e, first_e, second_e, Moved}
 use Rattle.electric.specs.Inner.Swept.{Carried, made_of, ca_at, cb_at, down_r, down_s, down_t}
-use Rattle.electric.proofs.Component.{Moved}
 
 -- a cell's new number hangs on the stores by its own numbers alone
 pub e_own : (A B C : Axis) (count : ℕ) (h tab m m₀ : List Float) (q i onB onC downB down_c : ℕ) → get_or m (A.mem + (q + i)) nan ≡ get_or m₀ (A.mem + (q + i)) nan

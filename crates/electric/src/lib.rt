@@ -1,24 +1,24 @@
 // The electric half step: rows along one axis, r, over the other two, s and t, and in each row the three components.
 #![tactic(auto)]
 
+pub mod given;
 pub mod row;
 pub mod short;
 
-ghost use Rattle.std.specs.Prelude.{◌≡◌, cond, ◌+◌, ◌*◌, ◌-◌, ◌≤◌, ◌<◌, eqb, length, get_or};
-ghost use Rattle.std.specs.Float.{nan};
+ghost use Rattle.std.specs.Prelude.{◌≡◌, cond, ◌+◌, ◌*◌, ◌-◌, ◌≤◌, ◌<◌, eqb, length};
 ghost use Rattle.grid.specs.Inner.Sound.{Sound};
 ghost use Rattle.grid.specs.Stores.{cells};
 ghost use Rattle.ade.specs.Polarization.{delta_p};
 ghost use Rattle.fdtd.specs.Axes.{previous_of, walled};
 ghost use Rattle.fdtd.specs.Halves.{half_e, psi_after, electric_after};
-ghost use Rattle.fdtd.specs.Inner.Span.{Span, Two};
 ghost use Rattle.fdtd.specs.Inner.Turns.{Fit};
-ghost use Rattle.electric.specs.Inner.Row.{change_at, dp_of, field_e, first_e, second_e, OffWallRun, DpRoom};
+ghost use Rattle.electric.specs.Inner.Row.{change_at, OffWallRun, Moved};
 ghost use Rattle.electric.specs.Inner.Swept.{Swept, Carried};
 
 use fdtd::rows::Scratch;
-use fdtd::turns::{Run, Spot, Turn};
+use fdtd::turns::Run;
 use fdtd::{Axis, single, turns};
+use given::{Inputs, Line};
 use grid::{Record, stores};
 use row::{Change, Factors};
 
@@ -52,24 +52,20 @@ fn change_at(w: Change, at: usize, q: usize) -> Change
 // kept: three components, since they differ in which of their sides lie along the row.
 
 // The component along r: both of its sides lie across the row.
-fn comp_r(
-    e: &mut [f64],
-    mem: &mut [f64],
-    scr: &mut Scratch,
-    f: &Factors,
-    h: &[f64],
-    tab: &[f64],
-    poles: &[f64],
-    w: Change,
-    g: Turn,
-    p: Spot,
-)
-    requires fit { Fit g h.now tab.now mem.old e.old }
-    requires s_lt_n { (p.s < g.s.n) × (p.t < g.t.n) × (w.at + g.r.at + g.count ≤ length poles.now) }
-    requires n_bound { (p.q + g.r.n ≤ g.count) × (p.bs + g.r.n ≤ g.count) × (p.bt + g.r.n ≤ g.count) }
-    ensures span { Span (λ i. field_e g.r g.s g.t g.count h.now tab.now mem.old (p.q + i) p.s p.t (p.bs + i) (p.bt + i) (get_or f.now.ca i nan) (get_or f.now.cb i nan) w.dt (dp_of w poles.now (g.r.at + (p.q + i))) e.old) e.old (g.r.at + p.q) 0 g.r.n e.new }
-    ensures two { Two (λ i. first_e g.r g.s g.t g.count h.now tab.now mem.old (p.q + i) p.s p.t (p.bs + i) (p.bt + i)) (λ i. second_e g.r g.s g.t g.count h.now tab.now mem.old (p.q + i) p.s p.t (p.bs + i) (p.bt + i)) mem.old (g.r.mem + p.q) (g.r.mem + g.count + p.q) 0 g.r.n mem.new }
+fn comp_r(e: &mut [f64], mem: &mut [f64], scr: &mut Scratch, l: &Line)
+    requires { Fit l.now.g l.now.h.now l.now.tab.now mem.old e.old }
+    ensures { let g = l.now.g in let p = l.now.p in Moved g.r g.s g.t g.count l.now.h.now l.now.tab.now mem.old l.now.f.now l.now.poles.now e.old l.now.w p.q g.r.n (λ i. p.s) (λ i. p.t) (λ i. p.bs + i) (λ i. p.bt + i) e.new mem.new }
 {
+    let Line {
+        f,
+        h,
+        tab,
+        poles,
+        w,
+        g,
+        p,
+        ..
+    } = *l;
     let n = g.r.n;
     if walled_at(g.s, p.s) | walled_at(g.t, p.t) {
         stores::fill(e, g.r.at + p.q, n, 0.0);
@@ -99,26 +95,20 @@ fn comp_r(
 }
 
 // The component along s: its first side lies across the row, its second along it.
-fn comp_s(
-    e: &mut [f64],
-    mem: &mut [f64],
-    scr: &mut Scratch,
-    f: &Factors,
-    h: &[f64],
-    tab: &[f64],
-    poles: &[f64],
-    w: Change,
-    g: Turn,
-    run: Run,
-    p: Spot,
-)
-    requires fit { Fit g h.now tab.now mem.old e.old }
-    requires s_lt_n { (p.s < g.s.n) × (p.t < g.t.n) × (w.at + g.s.at + g.count ≤ length poles.now) }
-    requires n_bound { (p.q + g.r.n ≤ g.count) × (p.bs + g.r.n ≤ g.count) × (p.bt + g.r.n ≤ g.count) }
-    requires off_wall_run { OffWallRun g.r tab.now run }
-    ensures span { Span (λ i. field_e g.s g.t g.r g.count h.now tab.now mem.old (p.q + i) p.t i (p.bt + i) (p.q + previous_of i g.r.n) (get_or f.now.ca i nan) (get_or f.now.cb i nan) w.dt (dp_of w poles.now (g.s.at + (p.q + i))) e.old) e.old (g.s.at + p.q) 0 g.r.n e.new }
-    ensures two { Two (λ i. first_e g.s g.t g.r g.count h.now tab.now mem.old (p.q + i) p.t i (p.bt + i) (p.q + previous_of i g.r.n)) (λ i. second_e g.s g.t g.r g.count h.now tab.now mem.old (p.q + i) p.t i (p.bt + i) (p.q + previous_of i g.r.n)) mem.old (g.s.mem + p.q) (g.s.mem + g.count + p.q) 0 g.r.n mem.new }
+fn comp_s(e: &mut [f64], mem: &mut [f64], scr: &mut Scratch, l: &Line)
+    requires { Fit l.now.g l.now.h.now l.now.tab.now mem.old e.old }
+    ensures { let g = l.now.g in let p = l.now.p in Moved g.s g.t g.r g.count l.now.h.now l.now.tab.now mem.old l.now.f.now l.now.poles.now e.old l.now.w p.q g.r.n (λ i. p.t) (λ i. i) (λ i. p.bt + i) (λ i. p.q + previous_of i g.r.n) e.new mem.new }
 {
+    let Line {
+        f,
+        h,
+        tab,
+        poles,
+        w,
+        g,
+        run,
+        p,
+    } = *l;
     let n = g.r.n;
     let a = run.start;
     let z = run.end;
@@ -150,26 +140,20 @@ fn comp_s(
 }
 
 // The component along t: its first side lies along the row, its second across it.
-fn comp_t(
-    e: &mut [f64],
-    mem: &mut [f64],
-    scr: &mut Scratch,
-    f: &Factors,
-    h: &[f64],
-    tab: &[f64],
-    poles: &[f64],
-    w: Change,
-    g: Turn,
-    run: Run,
-    p: Spot,
-)
-    requires fit { Fit g h.now tab.now mem.old e.old }
-    requires s_lt_n { (p.s < g.s.n) × (p.t < g.t.n) × (w.at + g.t.at + g.count ≤ length poles.now) }
-    requires n_bound { (p.q + g.r.n ≤ g.count) × (p.bs + g.r.n ≤ g.count) × (p.bt + g.r.n ≤ g.count) }
-    requires off_wall_run { OffWallRun g.r tab.now run }
-    ensures span { Span (λ i. field_e g.t g.r g.s g.count h.now tab.now mem.old (p.q + i) i p.s (p.q + previous_of i g.r.n) (p.bs + i) (get_or f.now.ca i nan) (get_or f.now.cb i nan) w.dt (dp_of w poles.now (g.t.at + (p.q + i))) e.old) e.old (g.t.at + p.q) 0 g.r.n e.new }
-    ensures two { Two (λ i. first_e g.t g.r g.s g.count h.now tab.now mem.old (p.q + i) i p.s (p.q + previous_of i g.r.n) (p.bs + i)) (λ i. second_e g.t g.r g.s g.count h.now tab.now mem.old (p.q + i) i p.s (p.q + previous_of i g.r.n) (p.bs + i)) mem.old (g.t.mem + p.q) (g.t.mem + g.count + p.q) 0 g.r.n mem.new }
+fn comp_t(e: &mut [f64], mem: &mut [f64], scr: &mut Scratch, l: &Line)
+    requires { Fit l.now.g l.now.h.now l.now.tab.now mem.old e.old }
+    ensures { let g = l.now.g in let p = l.now.p in Moved g.t g.r g.s g.count l.now.h.now l.now.tab.now mem.old l.now.f.now l.now.poles.now e.old l.now.w p.q g.r.n (λ i. i) (λ i. p.s) (λ i. p.q + previous_of i g.r.n) (λ i. p.bs + i) e.new mem.new }
 {
+    let Line {
+        f,
+        h,
+        tab,
+        poles,
+        w,
+        g,
+        run,
+        p,
+    } = *l;
     let n = g.r.n;
     let a = run.start;
     let z = run.end;
@@ -206,56 +190,45 @@ fn line(
     mem: &mut [f64],
     scr: &mut Scratch,
     f: &mut Factors,
-    h: &[f64],
-    media: &[f64],
-    tab: &[f64],
-    poles: &[f64],
-    eps0: f64,
-    w: Change,
-    g: Turn,
+    x: &Inputs,
     run: Run,
     s: usize,
     t: usize,
 )
-    requires fit { Fit g h.now tab.now mem.old e.old }
-    requires off_wall_run { OffWallRun g.r tab.now run }
-    requires dp_room { DpRoom g w poles.now }
-    requires s_lt_n { (s < g.s.n) × (t < g.t.n) × (g.count + g.count + g.count ≤ length media.now) }
-    ensures { Carried eps0 w g h.now media.now tab.now poles.now s t e.old mem.old e.new mem.new }
+    requires fit { Fit x.now.g x.now.h.now x.now.tab.now mem.old e.old }
+    requires off_wall_run { OffWallRun x.now.g.r x.now.tab.now run }
+    requires s_lt_n { (s < x.now.g.s.n) × (t < x.now.g.t.n) }
+    ensures { Carried x.now.eps0 x.now.w x.now.g x.now.h.now x.now.media.now x.now.tab.now x.now.poles.now s t e.old mem.old e.new mem.new }
 {
+    let g = x.g;
     let bs = previous_of(s, g.s.n);
     let bt = previous_of(t, g.t.n);
     let p = turns::find_spot(g, s, t, bs, bt);
-    row::weigh(f, media, p.q, 2 * g.count + p.q, g.r.n, eps0, g.dt);
-    comp_r(e, mem, scr, f, h, tab, poles, w, g, p);
-    comp_s(e, mem, scr, f, h, tab, poles, w, g, run, p);
-    comp_t(e, mem, scr, f, h, tab, poles, w, g, run, p);
+    row::weigh(f, x.media, p.q, 2 * g.count + p.q, g.r.n, x.eps0, g.dt);
+    let l = Line {
+        f,
+        h: x.h,
+        tab: x.tab,
+        poles: x.poles,
+        w: x.w,
+        g,
+        run,
+        p,
+    };
+    comp_r(e, mem, scr, &l);
+    comp_s(e, mem, scr, &l);
+    comp_t(e, mem, scr, &l);
 }
 
 // All rows.
-fn sweep(
-    e: &mut [f64],
-    mem: &mut [f64],
-    scr: &mut Scratch,
-    f: &mut Factors,
-    h: &[f64],
-    media: &[f64],
-    tab: &[f64],
-    poles: &[f64],
-    eps0: f64,
-    w: Change,
-    g: Turn,
-    run: Run,
-)
-    requires fit { Fit g h.now tab.now mem.old e.old }
-    requires off_wall_run { OffWallRun g.r tab.now run }
-    requires dp_room { DpRoom g w poles.now }
-    requires count_in_bounds { g.count + g.count + g.count ≤ length media.now }
-    ensures { Swept eps0 w g h.now media.now tab.now poles.now e.old mem.old (g.t.n * g.s.n) e.new mem.new }
+fn sweep(e: &mut [f64], mem: &mut [f64], scr: &mut Scratch, f: &mut Factors, x: &Inputs, run: Run)
+    requires fit { Fit x.now.g x.now.h.now x.now.tab.now mem.old e.old }
+    requires off_wall_run { OffWallRun x.now.g.r x.now.tab.now run }
+    ensures { Swept x.now.eps0 x.now.w x.now.g x.now.h.now x.now.media.now x.now.tab.now x.now.poles.now e.old mem.old (x.now.g.t.n * x.now.g.s.n) e.new mem.new }
 {
-    for t in 0..g.t.n {
-        for s in 0..g.s.n {
-            line(e, mem, scr, f, h, media, tab, poles, eps0, w, g, run, s, t);
+    for t in 0..x.g.t.n {
+        for s in 0..x.g.s.n {
+            line(e, mem, scr, f, x, run, s, t);
         }
     }
 }
@@ -281,24 +254,12 @@ fn end_of(n: usize, wraps: bool) -> usize
 }
 
 // The whole half step in rows along r.
-fn step_along(
-    e: &mut [f64],
-    mem: &mut [f64],
-    h: &[f64],
-    media: &[f64],
-    tab: &[f64],
-    poles: &[f64],
-    eps0: f64,
-    w: Change,
-    g: Turn,
-)
-    requires fit { Fit g h.now tab.now mem.old e.old }
-    requires dp_room { DpRoom g w poles.now }
-    requires count_in_bounds { g.count + g.count + g.count ≤ length media.now }
-    ensures { Swept eps0 w g h.now media.now tab.now poles.now e.old mem.old (g.t.n * g.s.n) e.new mem.new }
+fn step_along(e: &mut [f64], mem: &mut [f64], x: &Inputs)
+    requires { Fit x.now.g x.now.h.now x.now.tab.now mem.old e.old }
+    ensures { Swept x.now.eps0 x.now.w x.now.g x.now.h.now x.now.media.now x.now.tab.now x.now.poles.now e.old mem.old (x.now.g.t.n * x.now.g.s.n) e.new mem.new }
 {
-    if g.r.n < single::SHORT {
-        short::sweep_cells(e, mem, h, media, tab, poles, eps0, w, g);
+    if x.g.r.n < single::SHORT {
+        short::sweep_cells(e, mem, x);
     } else {
         let mut scr = Scratch {
             first: [0.0; 512],
@@ -309,12 +270,10 @@ fn step_along(
             ca: [0.0; 512],
             cb: [0.0; 512],
         };
-        let start = start_of(g.r.wraps);
-        let end = end_of(g.r.n, g.r.wraps);
-        let run = turns::find_lull(tab, g.r, start, end);
-        sweep(
-            e, mem, &mut scr, &mut f, h, media, tab, poles, eps0, w, g, run,
-        );
+        let start = start_of(x.g.r.wraps);
+        let end = end_of(x.g.r.n, x.g.r.wraps);
+        let run = turns::find_lull(x.tab, x.g.r, start, end);
+        sweep(e, mem, &mut scr, &mut f, x, run);
     }
 }
 
@@ -342,5 +301,15 @@ pub fn update_e_field(
         at: 6 * r.pole_slots * (r.nx * r.ny * r.nz),
         dt: r.spacings.dt,
     };
-    step_along(e, psi_e, h, media, tables, poles, eps0, w, g);
+    let x = Inputs {
+        h,
+        media,
+        tab: tables,
+        poles,
+        w,
+        none: 0.0 / w.dt,
+        eps0,
+        g,
+    };
+    step_along(e, psi_e, &x);
 }

@@ -15,8 +15,8 @@ use Rattle.fdtd.specs.Inner.Rows.{side_memory}
 use Rattle.fdtd.specs.Inner.Span.{Span, Two}
 use Rattle.fdtd.proofs.Spans.{span_as, span_more, span_kept}
 use Rattle.fdtd.proofs.Stands.{Stands}
-use Rattle.fdtd.proofs.Components.{at_curl, Memories, idle_mem, moved_mem}
-use Rattle.magnetic.specs.Inner.Row.{slope_of, field_of, field_h}
+use Rattle.fdtd.proofs.Components.{at_curl, idle_mem, moved_mem}
+use Rattle.magnetic.specs.Inner.Row.{slope_of, field_of, field_h, Moved}
 
 -- over variables
 pub and_true : (x y : Bool) → x ≡ true → y ≡ true → (x && y) ≡ true
@@ -47,13 +47,8 @@ module _ (A B C : Axis) (count : ℕ) (e tab mem : List Float) (q i onB onC upB 
   stop_h g h f = rw (add_assoc A.at q i) (pick_stop _ _ _ g)
 
 module _ (A B C : Axis) (count : ℕ) (e tab mem fac h : List Float) (q n : ℕ) (onB onC upB up_c : ℕ → ℕ) where
-  abbrev pub Moved : List Float → List Float → Type 0
-  Moved h' mem' =
-      Span (λ i. field_h A B C count e tab mem (q + i) (onB i) (onC i) (upB i) (up_c i) (get_or fac i nan) h) h (A.at + q) 0 n h'
-      × Memories A B C count e tab mem q n onB onC (λ i. q + i) upB (λ i. q + i) up_c (λ i. moves_h B C (onB i) (onC i)) mem'
-
   -- nothing moves
-  pub idle : ((i : ℕ) → moves_h B C (onB i) (onC i) ≡ false) → Moved h mem
+  pub idle : ((i : ℕ) → moves_h B C (onB i) (onC i) ≡ false) → Moved A B C count e tab mem fac h q n onB onC upB up_c h mem
   idle g = (
     span_kept _ _ _ _ _ (λ i l. stop_h A B C count e tab mem q i _ _ _ _ (g i) h _),
     idle_mem A B C count e tab mem q n onB onC (λ i. q + i) upB (λ i. q + i) up_c (λ i. moves_h B C (onB i) (onC i)) g,
@@ -67,7 +62,7 @@ module _ (A B C : Axis) (count : ℕ) (e tab mem fac h : List Float) (q n : ℕ)
       (stop : (i : ℕ) → m ≤ i → i < n → moves_h B C (onB i) (onC i) ≡ false)
       (hh : Span (field_of b c e tab mem fac h n (A.at + q)) h (A.at + q) 0 m h')
       (mm : Two (λ i. side_memory b tab mem i (slope_of b e n i)) (λ i. side_memory c tab mem i (slope_of c e n i)) mem b.mem c.mem 0 m mem') where
-    pub moved : Moved h' mem'
+    pub moved : Moved A B C count e tab mem fac h q n onB onC upB up_c h' mem'
     moved = (
       span_more _ _ _ _ (span_as _ _ _ _ hh (λ i u l. at_h A B C count e tab mem q i _ _ _ _ b c n fac h (sb i) (sc i) (go i l))) (omega arith) most
           (λ i u l. stop_h A B C count e tab mem q i _ _ _ _ (stop i u l) h _),

@@ -15,9 +15,8 @@ use Rattle.fdtd.specs.Inner.Turns.{row_at, spot_of, Laid, on_r, on_s, on_t}
 use Rattle.fdtd.proofs.Spans.{first_at}
 use Rattle.fdtd.proofs.Components.{curl_own, b_own, c_own}
 use Rattle.fdtd.proofs.Lines.{Right, line_law}
-use Rattle.magnetic.specs.Inner.Row.{field_h, first_h, second_h}
+use Rattle.magnetic.specs.Inner.Row.{field_h, first_h, second_h, Moved}
 use Rattle.magnetic.specs.Inner.Swept.{Carried, made_of, up_r, up_s, up_t}
-use Rattle.magnetic.proofs.Component.{Moved}
 
 -- a cell's new number hangs on the stores by its own numbers alone
 pub h_own : (A B C : Axis) (count : ℕ) (e tab m m₀ : List Float) (q i onB onC upB up_c : ℕ) → get_or m (A.mem + (q + i)) nan ≡ get_or m₀ (A.mem + (q + i)) nan

@@ -1,44 +1,40 @@
 // The magnetic half step: rows along one axis, r, over the other two, s and t, and in each row the three components.
 #![tactic(auto)]
 
+pub mod given;
 pub mod row;
 pub mod short;
 
-ghost use Rattle.std.specs.Prelude.{◌≡◌, cond, ◌+◌, ◌*◌, ◌-◌, ◌≤◌, ◌<◌, length, get_or};
-ghost use Rattle.std.specs.Float.{nan};
+ghost use Rattle.std.specs.Prelude.{◌≡◌, cond, ◌+◌, ◌*◌, ◌-◌, ◌≤◌, ◌<◌, length};
 ghost use Rattle.grid.specs.Inner.Sound.{Sound};
 ghost use Rattle.grid.specs.Stores.{cells};
 ghost use Rattle.fdtd.specs.Axes.{next_of};
 ghost use Rattle.fdtd.specs.Halves.{half_h, psi_after, magnetic_after};
-ghost use Rattle.fdtd.specs.Inner.Span.{Span, Two};
 ghost use Rattle.fdtd.specs.Inner.Turns.{Fit};
-ghost use Rattle.magnetic.specs.Inner.Row.{field_h, first_h, second_h, NextRun};
+ghost use Rattle.magnetic.specs.Inner.Row.{NextRun, Moved};
 ghost use Rattle.magnetic.specs.Inner.Swept.{Swept, Carried};
 
 use fdtd::rows::Scratch;
-use fdtd::turns::{Run, Spot, Turn};
+use fdtd::turns::Run;
 use fdtd::{single, turns};
+use given::{Inputs, Line};
 use grid::Record;
 
 // kept: three components, since they differ in which of their sides lie along the row.
 
 // The component along r: both of its sides lie across the row.
-fn comp_r(
-    h: &mut [f64],
-    mem: &mut [f64],
-    scr: &mut Scratch,
-    f: &[f64],
-    e: &[f64],
-    tab: &[f64],
-    g: Turn,
-    p: Spot,
-)
-    requires fit { Fit g e.now tab.now mem.old h.old }
-    requires s_lt_n { (p.s < g.s.n) × (p.t < g.t.n) × (g.r.n ≤ length f.now) }
-    requires n_bound { (p.q + g.r.n ≤ g.count) × (p.bs + g.r.n ≤ g.count) × (p.bt + g.r.n ≤ g.count) }
-    ensures span { Span (λ i. field_h g.r g.s g.t g.count e.now tab.now mem.old (p.q + i) p.s p.t (p.bs + i) (p.bt + i) (get_or f.now i nan) h.old) h.old (g.r.at + p.q) 0 g.r.n h.new }
-    ensures two { Two (λ i. first_h g.r g.s g.t g.count e.now tab.now mem.old (p.q + i) p.s p.t (p.bs + i) (p.bt + i)) (λ i. second_h g.r g.s g.t g.count e.now tab.now mem.old (p.q + i) p.s p.t (p.bs + i) (p.bt + i)) mem.old (g.r.mem + p.q) (g.r.mem + g.count + p.q) 0 g.r.n mem.new }
+fn comp_r(h: &mut [f64], mem: &mut [f64], scr: &mut Scratch, l: &Line)
+    requires { Fit l.now.g l.now.e.now l.now.tab.now mem.old h.old }
+    ensures { let g = l.now.g in let p = l.now.p in Moved g.r g.s g.t g.count l.now.e.now l.now.tab.now mem.old l.now.f.now h.old p.q g.r.n (λ i. p.s) (λ i. p.t) (λ i. p.bs + i) (λ i. p.bt + i) h.new mem.new }
 {
+    let Line {
+        f,
+        e,
+        tab,
+        g,
+        p,
+        ..
+    } = *l;
     if turns::has_next(g.s, p.s) & turns::has_next(g.t, p.t) {
         let n = g.r.n;
         let m = g.r.mem + p.q;
@@ -50,24 +46,18 @@ fn comp_r(
 }
 
 // The component along s: its first side lies across the row, its second along it.
-fn comp_s(
-    h: &mut [f64],
-    mem: &mut [f64],
-    scr: &mut Scratch,
-    f: &[f64],
-    e: &[f64],
-    tab: &[f64],
-    g: Turn,
-    run: Run,
-    p: Spot,
-)
-    requires fit { Fit g e.now tab.now mem.old h.old }
-    requires s_lt_n { (p.s < g.s.n) × (p.t < g.t.n) × (g.r.n ≤ length f.now) }
-    requires n_bound { (p.q + g.r.n ≤ g.count) × (p.bs + g.r.n ≤ g.count) × (p.bt + g.r.n ≤ g.count) }
-    requires next_run { NextRun g.r tab.now run }
-    ensures span { Span (λ i. field_h g.s g.t g.r g.count e.now tab.now mem.old (p.q + i) p.t i (p.bt + i) (p.q + next_of i g.r.n) (get_or f.now i nan) h.old) h.old (g.s.at + p.q) 0 g.r.n h.new }
-    ensures two { Two (λ i. first_h g.s g.t g.r g.count e.now tab.now mem.old (p.q + i) p.t i (p.bt + i) (p.q + next_of i g.r.n)) (λ i. second_h g.s g.t g.r g.count e.now tab.now mem.old (p.q + i) p.t i (p.bt + i) (p.q + next_of i g.r.n)) mem.old (g.s.mem + p.q) (g.s.mem + g.count + p.q) 0 g.r.n mem.new }
+fn comp_s(h: &mut [f64], mem: &mut [f64], scr: &mut Scratch, l: &Line)
+    requires { Fit l.now.g l.now.e.now l.now.tab.now mem.old h.old }
+    ensures { let g = l.now.g in let p = l.now.p in Moved g.s g.t g.r g.count l.now.e.now l.now.tab.now mem.old l.now.f.now h.old p.q g.r.n (λ i. p.t) (λ i. i) (λ i. p.bt + i) (λ i. p.q + next_of i g.r.n) h.new mem.new }
 {
+    let Line {
+        f,
+        e,
+        tab,
+        g,
+        run,
+        p,
+    } = *l;
     if turns::has_next(g.t, p.t) {
         let z = run.end;
         let m = g.s.mem + p.q;
@@ -79,24 +69,18 @@ fn comp_s(
 }
 
 // The component along t: its first side lies along the row, its second across it.
-fn comp_t(
-    h: &mut [f64],
-    mem: &mut [f64],
-    scr: &mut Scratch,
-    f: &[f64],
-    e: &[f64],
-    tab: &[f64],
-    g: Turn,
-    run: Run,
-    p: Spot,
-)
-    requires fit { Fit g e.now tab.now mem.old h.old }
-    requires s_lt_n { (p.s < g.s.n) × (p.t < g.t.n) × (g.r.n ≤ length f.now) }
-    requires n_bound { (p.q + g.r.n ≤ g.count) × (p.bs + g.r.n ≤ g.count) × (p.bt + g.r.n ≤ g.count) }
-    requires next_run { NextRun g.r tab.now run }
-    ensures span { Span (λ i. field_h g.t g.r g.s g.count e.now tab.now mem.old (p.q + i) i p.s (p.q + next_of i g.r.n) (p.bs + i) (get_or f.now i nan) h.old) h.old (g.t.at + p.q) 0 g.r.n h.new }
-    ensures two { Two (λ i. first_h g.t g.r g.s g.count e.now tab.now mem.old (p.q + i) i p.s (p.q + next_of i g.r.n) (p.bs + i)) (λ i. second_h g.t g.r g.s g.count e.now tab.now mem.old (p.q + i) i p.s (p.q + next_of i g.r.n) (p.bs + i)) mem.old (g.t.mem + p.q) (g.t.mem + g.count + p.q) 0 g.r.n mem.new }
+fn comp_t(h: &mut [f64], mem: &mut [f64], scr: &mut Scratch, l: &Line)
+    requires { Fit l.now.g l.now.e.now l.now.tab.now mem.old h.old }
+    ensures { let g = l.now.g in let p = l.now.p in Moved g.t g.r g.s g.count l.now.e.now l.now.tab.now mem.old l.now.f.now h.old p.q g.r.n (λ i. i) (λ i. p.s) (λ i. p.q + next_of i g.r.n) (λ i. p.bs + i) h.new mem.new }
 {
+    let Line {
+        f,
+        e,
+        tab,
+        g,
+        run,
+        p,
+    } = *l;
     if turns::has_next(g.s, p.s) {
         let z = run.end;
         let m = g.t.mem + p.q;
@@ -113,50 +97,44 @@ fn line(
     mem: &mut [f64],
     scr: &mut Scratch,
     f: &mut [f64],
-    e: &[f64],
-    media: &[f64],
-    tab: &[f64],
-    mu0: f64,
-    g: Turn,
+    x: &Inputs,
     run: Run,
     s: usize,
     t: usize,
 )
-    requires fit { Fit g e.now tab.now mem.old h.old }
-    requires next_run { NextRun g.r tab.now run }
-    requires s_lt_n { (s < g.s.n) × (t < g.t.n) × (g.r.n ≤ length f.old) × (g.count + g.count ≤ length media.now) }
-    ensures { Carried mu0 g e.now media.now tab.now s t h.old mem.old h.new mem.new }
+    requires fit { Fit x.now.g x.now.e.now x.now.tab.now mem.old h.old }
+    requires next_run { NextRun x.now.g.r x.now.tab.now run }
+    requires s_lt_n { (s < x.now.g.s.n) × (t < x.now.g.t.n) × (x.now.g.r.n ≤ length f.old) }
+    ensures { Carried x.now.mu0 x.now.g x.now.e.now x.now.media.now x.now.tab.now s t h.old mem.old h.new mem.new }
 {
+    let g = x.g;
     let bs = turns::next_of(s, g.s.n);
     let bt = turns::next_of(t, g.t.n);
     let p = turns::find_spot(g, s, t, bs, bt);
-    row::factors(f, media, g.count + p.q, g.r.n, g.dt, mu0);
-    comp_r(h, mem, scr, f, e, tab, g, p);
-    comp_s(h, mem, scr, f, e, tab, g, run, p);
-    comp_t(h, mem, scr, f, e, tab, g, run, p);
+    row::factors(f, x.media, g.count + p.q, g.r.n, g.dt, x.mu0);
+    let l = Line {
+        f,
+        e: x.e,
+        tab: x.tab,
+        g,
+        run,
+        p,
+    };
+    comp_r(h, mem, scr, &l);
+    comp_s(h, mem, scr, &l);
+    comp_t(h, mem, scr, &l);
 }
 
 // All rows.
-fn sweep(
-    h: &mut [f64],
-    mem: &mut [f64],
-    scr: &mut Scratch,
-    f: &mut [f64],
-    e: &[f64],
-    media: &[f64],
-    tab: &[f64],
-    mu0: f64,
-    g: Turn,
-    run: Run,
-)
-    requires fit { Fit g e.now tab.now mem.old h.old }
-    requires next_run { NextRun g.r tab.now run }
-    requires f_len { (g.r.n ≤ length f.old) × (g.count + g.count ≤ length media.now) }
-    ensures { Swept mu0 g e.now media.now tab.now h.old mem.old (g.t.n * g.s.n) h.new mem.new }
+fn sweep(h: &mut [f64], mem: &mut [f64], scr: &mut Scratch, f: &mut [f64], x: &Inputs, run: Run)
+    requires fit { Fit x.now.g x.now.e.now x.now.tab.now mem.old h.old }
+    requires next_run { NextRun x.now.g.r x.now.tab.now run }
+    requires f_len { x.now.g.r.n ≤ length f.old }
+    ensures { Swept x.now.mu0 x.now.g x.now.e.now x.now.media.now x.now.tab.now h.old mem.old (x.now.g.t.n * x.now.g.s.n) h.new mem.new }
 {
-    for t in 0..g.t.n {
-        for s in 0..g.s.n {
-            line(h, mem, scr, f, e, media, tab, mu0, g, run, s, t);
+    for t in 0..x.g.t.n {
+        for s in 0..x.g.s.n {
+            line(h, mem, scr, f, x, run, s, t);
         }
     }
 }
@@ -170,21 +148,12 @@ fn reach(n: usize, wraps: bool) -> usize
 }
 
 // The whole half step in rows along r.
-fn step_along(
-    h: &mut [f64],
-    mem: &mut [f64],
-    e: &[f64],
-    media: &[f64],
-    tab: &[f64],
-    mu0: f64,
-    g: Turn,
-)
-    requires fit { Fit g e.now tab.now mem.old h.old }
-    requires count_in_bounds { g.count + g.count ≤ length media.now }
-    ensures { Swept mu0 g e.now media.now tab.now h.old mem.old (g.t.n * g.s.n) h.new mem.new }
+fn step_along(h: &mut [f64], mem: &mut [f64], x: &Inputs)
+    requires { Fit x.now.g x.now.e.now x.now.tab.now mem.old h.old }
+    ensures { Swept x.now.mu0 x.now.g x.now.e.now x.now.media.now x.now.tab.now h.old mem.old (x.now.g.t.n * x.now.g.s.n) h.new mem.new }
 {
-    if g.r.n < single::SHORT {
-        short::sweep_cells(h, mem, e, media, tab, mu0, g);
+    if x.g.r.n < single::SHORT {
+        short::sweep_cells(h, mem, x);
     } else {
         let mut scr = Scratch {
             first: [0.0; 512],
@@ -192,9 +161,9 @@ fn step_along(
             curl: [0.0; 512],
         };
         let mut f = [0.0; 512];
-        let end = reach(g.r.n, g.r.wraps);
-        let run = turns::find_lull(tab, g.r, 0, end);
-        sweep(h, mem, &mut scr, &mut f, e, media, tab, mu0, g, run);
+        let end = reach(x.g.r.n, x.g.r.wraps);
+        let run = turns::find_lull(x.tab, x.g.r, 0, end);
+        sweep(h, mem, &mut scr, &mut f, x, run);
     }
 }
 
@@ -215,5 +184,12 @@ pub fn update_h_field(
     ensures psi_h_after { psi_h.new ≡ psi_after half_h r e.now tables.now psi_h.old }
 {
     let g = turns::turn_of(r, 3);
-    step_along(h, psi_h, e, media, tables, mu0, g);
+    let x = Inputs {
+        e,
+        media,
+        tab: tables,
+        mu0,
+        g,
+    };
+    step_along(h, psi_h, &x);
 }

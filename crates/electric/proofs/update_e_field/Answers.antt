@@ -1,16 +1,20 @@
+use mathlib.Core.Path.{refl}
 use Rattle.fdtd.proofs.Fits.{count_for, fit_for}
 use native.Mathlib.Omega.{arith}
 use Rattle.electric.proofs.Polarized.{held_for}
 use Rattle.electric.proofs.Steps.{electric_is, psi_is}
 use Rattle.electric.proofs.update_e_field.Goals as goal
 
+pub invariant_of-x : goal.invariant_of-x
+invariant_of-x c =
+    let pre = c.requires in
+    let n = count_for c.args.r 0 _ c.turn_of-g.ensures in
+    record { sigma_in_bounds = omega (arith, n, pre.h_len.1); dp_room = held_for c.args.r _ pre.poles_len c.turn_of-g.ensures; none_value = refl }
+
 pub step_along-requires : goal.step_along-requires
 step_along-requires c =
-    let turn-of = c.turn_of-g in
-    let a = c.args in
     let pre = c.requires in
-    let n = count_for a.r 0 _ turn-of.ensures in
-    record { fit = fit_for a.r 0 (omega arith) pre.sound _ _ _ _ pre.h_len.0 pre.psi_e_len.1 pre.psi_e_len.0 pre.h_len.2 turn-of.ensures; dp_room = held_for a.r _ pre.poles_len turn-of.ensures; count_in_bounds = omega (arith, n, pre.h_len.1) }
+    fit_for c.args.r 0 (omega arith) pre.sound _ _ _ _ pre.h_len.0 pre.psi_e_len.1 pre.psi_e_len.0 pre.h_len.2 c.turn_of-g.ensures
 
 pub returns : goal.returns
 returns c =

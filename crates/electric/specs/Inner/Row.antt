@@ -12,6 +12,7 @@ use Rattle.fdtd.specs.Axes.{previous_of}
 use Rattle.fdtd.specs.Yee.{slope, moves_e, updated_e}
 use Rattle.fdtd.specs.Inner.Cell.{curl_on, first_on, second_on}
 use Rattle.fdtd.specs.Inner.Rows.{side_layered}
+use Rattle.fdtd.specs.Inner.Span.{Span, Two}
 use Rattle.fdtd.specs.Inner.Turns.{Lull}
 use Rattle.electric.specs.declared.row.Change.{Change}
 use Rattle.electric.specs.declared.row.Factors.{Factors}
@@ -57,6 +58,15 @@ module _ (A B C : Axis) (count : ℕ) (h tab mem : List Float) (cell onB onC dow
 
   abbrev pub second_e : Float
   second_e = second_on A B C count h tab mem cell onB onC downB cell down_c cell (moves_e B C onB onC)
+
+-- the row of n cells that begins at q is moved on, with the factors f
+module _ (A B C : Axis) (count : ℕ) (h tab mem : List Float) (f : Factors) (poles e : List Float) (w : Change) (q n : ℕ) (onB onC downB down_c : ℕ → ℕ) where
+  abbrev pub Moved : (e' mem' : List Float) → Type 0
+  Moved e' mem' =
+      Span (λ i. field_e A B C count h tab mem (q + i) (onB i) (onC i) (downB i) (down_c i)
+      (get_or f.ca i nan) (get_or f.cb i nan) w.dt (dp_of w poles (A.at + (q + i))) e) e (A.at + q) 0 n e'
+      × Two (λ i. first_e A B C count h tab mem (q + i) (onB i) (onC i) (downB i) (down_c i)) (λ i. second_e A B C count h tab mem (q + i) (onB i) (onC i) (downB i) (down_c i))
+      mem (A.mem + q) (A.mem + count + q) 0 n mem'
 
 -- the cells of a row that lie on no wall of w: all where it wraps, else those between the first and the last
 pub record OffWallRun (w : Axis) (tab : List Float) (run : Run) : Type 0 where

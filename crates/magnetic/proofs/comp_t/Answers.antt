@@ -10,55 +10,51 @@ use Rattle.magnetic.proofs.comp_t.Goals as goal
 
 pub row-requires : goal.row-requires
 row-requires c =
-    let pre = c.requires in
     let along = c.along-b in
     let across = c.across-c in
     let a = c.args in
-    let g = a.g in
-    let p = a.p in
-    let f = pre.fit in
-    let spot = pre.n_bound in record {
-      le_n = (f.some, f.small, reach_le g.r.wraps g.r.n a.run.end pre.next_run.ends);
-      n_in_bounds = (row_fits g.t.at p.q g.r.n g.count _ f.ht spot.0, pre.s_lt_n.2);
+    let x = a.l.now in
+    let g = x.g in
+    let p = x.p in
+    let f = c.requires in record {
+      le_n = (f.some, f.small, reach_le g.r.wraps g.r.n x.run.end x.next_run.ends);
+      n_in_bounds = (row_fits g.t.at p.q g.r.n g.count _ f.ht x.own, x.f_len);
       side_room = (
-        room_along g.r _ a.run _ _ along.ensures (row_fits g.s.at p.q g.r.n g.count _ f.es spot.0) f.tr
-            (row_fits g.t.mem p.q g.r.n g.count _ (lower g.t.mem g.count _ f.mt) spot.0),
-        room_across g.s _ _ _ _ _ _ _ across.ensures (row_fits g.r.at p.q g.r.n g.count _ f.er spot.0)
-            (row_fits g.r.at p.bs g.r.n g.count _ f.er spot.1)
-            (thrice g.r.tab g.r.n _ _ f.tr (le_refl g.r.n)) (row_fits (g.t.mem + g.count) p.q g.r.n g.count _ f.mt spot.0),
+        room_along g.r _ x.run _ _ along.ensures (row_fits g.s.at p.q g.r.n g.count _ f.es x.own) f.tr
+            (row_fits g.t.mem p.q g.r.n g.count _ (lower g.t.mem g.count _ f.mt) x.own),
+        room_across g.s _ _ _ _ _ _ _ across.ensures (row_fits g.r.at p.q g.r.n g.count _ f.er x.own)
+            (row_fits g.r.at p.bs g.r.n g.count _ f.er x.ons)
+            (thrice g.r.tab g.r.n _ _ f.tr (le_refl g.r.n)) (row_fits (g.t.mem + g.count) p.q g.r.n g.count _ f.mt x.own),
       );
-      calm = (calm_along g.r _ a.run _ _ along.ensures pre.next_run.lull, calm_across g.s _ _ _ _ _ _ _ across.ensures zero-le);
-      n_bound = mem_apart g.t.mem p.q g.r.n g.count _ _ (ap (λ (s : Side). s.mem) along.ensures) (ap (λ (s : Side). s.mem) across.ensures) spot.0;
+      calm = (calm_along g.r _ x.run _ _ along.ensures x.next_run.lull, calm_across g.s _ _ _ _ _ _ _ across.ensures zero-le);
+      n_bound = mem_apart g.t.mem p.q g.r.n g.count _ _ (ap (λ (s : Side). s.mem) along.ensures) (ap (λ (s : Side). s.mem) across.ensures) x.own;
     }
 
 pub returns-then-has_next : goal.returns-then-has_next
 returns-then-has_next c =
-    let has_next_lem = c.has_next in
-    let if1 = c.if-has_next in
-    let pre = c.requires in
     let along = c.along-b in
     let across = c.across-c in
-    let row = c.row in
     let a = c.args in
-    let g = a.g in
-    let p = a.p in
-    let m = moved g.t g.r g.s g.count a.e.now a.tab.now a.mem.now a.f.now a.h.now p.q g.r.n
-    (λ i. i) (λ i. p.s) (λ i. p.q + next_of i g.r.n) (λ i. p.bs + i) _ _ a.run.end _ _
-    (reach_le g.r.wraps g.r.n a.run.end pre.next_run.ends) (row_le p.q g.r.n _ pre.n_bound.0)
+    let x = a.l.now in
+    let g = x.g in
+    let p = x.p in
+    moved g.t g.r g.s g.count x.e.now x.tab.now a.mem.now x.f.now a.h.now p.q g.r.n
+    (λ i. i) (λ i. p.s) (λ i. p.q + next_of i g.r.n) (λ i. p.bs + i) _ _ x.run.end _ _
+    (reach_le g.r.wraps g.r.n x.run.end x.next_run.ends) (row_le p.q g.r.n _ x.own)
     (λ i.
-    stands_along g.r g.s _ _ _ p.q i a.run _ g.t.mem along.ensures
-    (along_slope g.r g.s _ p.q i a.run _ along.ensures))
+    stands_along g.r g.s _ _ _ p.q i x.run _ g.t.mem along.ensures
+    (along_slope g.r g.s _ p.q i x.run _ along.ensures))
     (λ i.
     stands_across g.s g.r _ _ _ p.q i _ _ _ _ _ (g.t.mem + g.count) across.ensures
-    (across_slope g.s g.r _ a.tab.now _ p.q i p.s 0 _ p.bs _ across.ensures))
-    (λ i l. and_true (has_next g.r i) (has_next g.s p.s) (reach_in g.r.wraps i g.r.n a.run.end pre.next_run.ends l) (sym has_next_lem.ensures ∙ if1.true))
-    (λ i u l. and_left (has_next g.r i) (has_next g.s p.s) (reach_out g.r.wraps i g.r.n a.run.end pre.next_run.ends u l)) row.ensures.span row.ensures.two in
-    record { span = m.0; two = m.1 }
+    (across_slope g.s g.r _ x.tab.now _ p.q i p.s 0 _ p.bs _ across.ensures))
+    (λ i l. and_true (has_next g.r i) (has_next g.s p.s) (reach_in g.r.wraps i g.r.n x.run.end x.next_run.ends l) (sym c.has_next.ensures ∙ c.if-has_next.true))
+    (λ i u l. and_left (has_next g.r i) (has_next g.s p.s) (reach_out g.r.wraps i g.r.n x.run.end x.next_run.ends u l)) c.row.ensures.span c.row.ensures.two
 
 pub returns-else-has_next : goal.returns-else-has_next
-returns-else-has_next c = let a = c.args in
-    let g = a.g in
-    let p = a.p in
-    let m = idle g.t g.r g.s g.count a.e.now a.tab.now a.mem.now a.f.now a.h.now p.q g.r.n
-    (λ i. i) (λ i. p.s) (λ i. p.q + next_of i g.r.n) (λ i. p.bs + i) (λ i. and_right (has_next g.r i) (has_next g.s p.s) (sym c.has_next.ensures ∙ c.if-has_next.false)) in
-    record { span = m.0; two = m.1 }
+returns-else-has_next c =
+    let a = c.args in
+    let x = a.l.now in
+    let g = x.g in
+    let p = x.p in
+    idle g.t g.r g.s g.count x.e.now x.tab.now a.mem.now x.f.now a.h.now p.q g.r.n
+    (λ i. i) (λ i. p.s) (λ i. p.q + next_of i g.r.n) (λ i. p.bs + i) (λ i. and_right (has_next g.r i) (has_next g.s p.s) (sym c.has_next.ensures ∙ c.if-has_next.false))

@@ -3,13 +3,15 @@ use native.Mathlib.Omega.{arith}
 use Rattle.magnetic.proofs.Steps.{magnetic_is, psi_is}
 use Rattle.magnetic.proofs.update_h_field.Goals as goal
 
+pub invariant_of-x : goal.invariant_of-x
+invariant_of-x c =
+    let n = count_for c.args.r 3 _ c.turn_of-g.ensures in
+    record { mu_in_bounds = omega (arith, n, c.requires.e_len.1) }
+
 pub step_along-requires : goal.step_along-requires
 step_along-requires c =
-    let turn-of = c.turn_of-g in
-    let a = c.args in
     let pre = c.requires in
-    let n = count_for a.r 3 _ turn-of.ensures in
-    record { fit = fit_for a.r 3 (omega arith) pre.sound _ _ _ _ pre.e_len.0 pre.psi_h_len.1 pre.psi_h_len.0 pre.e_len.2 turn-of.ensures; count_in_bounds = omega (arith, n, pre.e_len.1) }
+    fit_for c.args.r 3 (omega arith) pre.sound _ _ _ _ pre.e_len.0 pre.psi_h_len.1 pre.psi_h_len.0 pre.e_len.2 c.turn_of-g.ensures
 
 pub returns : goal.returns
 returns c =

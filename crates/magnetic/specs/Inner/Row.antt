@@ -10,6 +10,7 @@ use Rattle.fdtd.specs.Axes.{next_of}
 use Rattle.fdtd.specs.Yee.{slope, moves_h, updated_h}
 use Rattle.fdtd.specs.Inner.Cell.{curl_on, first_on, second_on}
 use Rattle.fdtd.specs.Inner.Rows.{side_layered}
+use Rattle.fdtd.specs.Inner.Span.{Span, Two}
 use Rattle.fdtd.specs.Inner.Turns.{Lull}
 
 -- from a row's cells to their neighbours on a side
@@ -40,6 +41,14 @@ module _ (A B C : Axis) (count : ℕ) (e tab mem : List Float) (cell onB onC upB
 
   abbrev pub second_h : Float
   second_h = second_on A B C count e tab mem cell onB onC cell upB cell up_c (moves_h B C onB onC)
+
+-- the row of n cells that begins at q is moved on, with the factors fac
+module _ (A B C : Axis) (count : ℕ) (e tab mem fac h : List Float) (q n : ℕ) (onB onC upB up_c : ℕ → ℕ) where
+  abbrev pub Moved : (h' mem' : List Float) → Type 0
+  Moved h' mem' =
+      Span (λ i. field_h A B C count e tab mem (q + i) (onB i) (onC i) (upB i) (up_c i) (get_or fac i nan) h) h (A.at + q) 0 n h'
+      × Two (λ i. first_h A B C count e tab mem (q + i) (onB i) (onC i) (upB i) (up_c i)) (λ i. second_h A B C count e tab mem (q + i) (onB i) (onC i) (upB i) (up_c i))
+      mem (A.mem + q) (A.mem + count + q) 0 n mem'
 
 -- the cells from the first up to end have a neighbour along w, and those of the run a quiet layer
 pub record NextRun (w : Axis) (tab : List Float) (run : Run) : Type 0 where

@@ -6,7 +6,7 @@ use Rattle.electric.proofs.short.sweep_cells.Given as goal
 
 abbrev pub invariant-loop-s : goal.invariant-loop-s
 invariant-loop-s l =
-    (ee mm : List Float) → Swept l.eps0 l.w l.g l.h l.media l.tab l.poles ee mm (l.t * l.g.s.n) l.initial.e l.initial.mem → Swept l.eps0 l.w l.g l.h l.media l.tab l.poles ee mm (l.s + l.t * l.g.s.n) l.e l.mem
+    (ee mm : List Float) → Swept l.x.eps0 l.x.w l.x.g l.x.h.now l.x.media.now l.x.tab.now l.x.poles.now ee mm (l.t * l.x.g.s.n) l.initial.e l.initial.mem → Swept l.x.eps0 l.x.w l.x.g l.x.h.now l.x.media.now l.x.tab.now l.x.poles.now ee mm (l.s + l.t * l.x.g.s.n) l.e l.mem
 
 abbrev pub invariant-loop-t : goal.invariant-loop-t
-invariant-loop-t l = Swept l.eps0 l.w l.g l.h l.media l.tab l.poles l.initial.e l.initial.mem (l.t * l.g.s.n) l.e l.mem
+invariant-loop-t l = Swept l.x.eps0 l.x.w l.x.g l.x.h.now l.x.media.now l.x.tab.now l.x.poles.now l.initial.e l.initial.mem (l.t * l.x.g.s.n) l.e l.mem

@@ -2,12 +2,12 @@ use mathlib.Core.Path.{refl}
 use Rattle.electric.proofs.Shorts.{term_on, term_off}
 use Rattle.electric.proofs.short.term_of.Goals as goal
 
-pub returns-then-w : goal.returns-then-w
-returns-then-w c =
+pub returns-then-x : goal.returns-then-x
+returns-then-x c =
     let a = c.args in
-    term_on a.w a.poles.now a.i c.if-w.true refl
+    term_on a.x.now.w a.x.now.poles.now a.i c.if-x.true refl
 
-pub returns-else-w : goal.returns-else-w
-returns-else-w c =
+pub returns-else-x : goal.returns-else-x
+returns-else-x c =
     let a = c.args in
-    term_off a.w a.poles.now a.i c.if-w.false c.requires.0
+    term_off a.x.now.w a.x.now.poles.now a.i c.if-x.false a.x.now.none_value

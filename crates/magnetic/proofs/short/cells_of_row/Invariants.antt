@@ -7,4 +7,4 @@ use Rattle.magnetic.proofs.short.cells_of_row.Given as goal
 
 abbrev pub invariant-loop-i : goal.invariant-loop-i
 invariant-loop-i l =
-    (hh mm : List Float) → Swept l.mu0 l.g l.e l.media l.tab hh mm (l.s + l.t * l.g.s.n) l.initial.h l.initial.mem → Sweeping l.mu0 l.g l.e l.media l.tab hh mm l.s l.t l.i l.h l.mem
+    (hh mm : List Float) → Swept l.x.mu0 l.x.g l.x.e.now l.x.media.now l.x.tab.now hh mm (l.s + l.t * l.x.g.s.n) l.initial.h l.initial.mem → Sweeping l.x.mu0 l.x.g l.x.e.now l.x.media.now l.x.tab.now hh mm l.s l.t l.i l.h l.mem

@@ -94,7 +94,7 @@ fn code(words: &[Word]) -> Vec<Word> {
     let mut at = 0;
     while at < words.len() {
         at = match words[at].text.as_str() {
-            "ghost" => find(words, at, ";") + 1,
+            "ghost" => ghost(words, at),
             "requires" | "ensures" => closing(words, find(words, at, "{")) + 1,
             _ => {
                 out.push(words[at].clone());
@@ -103,6 +103,21 @@ fn code(words: &[Word]) -> Vec<Word> {
         };
     }
     out
+}
+
+/// The place after a ghost line or a ghost field: behind its `;`, or, of a field, behind its braces.
+fn ghost(words: &[Word], at: usize) -> usize {
+    let behind = words[at..]
+        .iter()
+        .position(|word| word.is(";") || word.is("{"));
+    let first = at + behind.expect("a ghost line ends");
+    match words[first].is("{") {
+        false => first + 1,
+        true => {
+            let end = closing(words, first) + 1;
+            end + usize::from(words.get(end).is_some_and(|word| word.is(";")))
+        }
+    }
 }
 
 /// The paths of a `use` line: `a::b`, or `a::{b, c}`, which is `a::b` and `a::c`.

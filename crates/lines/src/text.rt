@@ -26,7 +26,7 @@ pub struct Text<'a> {
 }
 
 impl Text<'_> {
-    fn put(&mut self, byte: u8)
+    fn put_byte(&mut self, byte: u8)
         requires { Room 1 self.old }
         ensures { Puts 1 self.old (byte ∷ []) self.new }
     {
@@ -41,7 +41,7 @@ impl Text<'_> {
     {
         if 0 < w {
             self.put_hex(w - 1, n / 16);
-            self.put(digit((n % 16) as u32));
+            self.put_byte(digit((n % 16) as u32));
         }
     }
 
@@ -50,10 +50,10 @@ impl Text<'_> {
         ensures { Puts (length (decimal n)) self.old (decimal n) self.new }
     {
         if n < 10 {
-            self.put(digit(n));
+            self.put_byte(digit(n));
         } else {
             self.put_decimal(n / 10);
-            self.put(digit(n % 10));
+            self.put_byte(digit(n % 10));
         }
     }
 
@@ -62,7 +62,7 @@ impl Text<'_> {
         ensures { Puts 11 self.old (ended end (decimal n)) self.new }
     {
         self.put_decimal(n);
-        self.put(end);
+        self.put_byte(end);
     }
 
     pub fn put_bits(&mut self, n: u64, end: u8)
@@ -70,7 +70,7 @@ impl Text<'_> {
         ensures { Puts 17 self.old (ended end (hex n)) self.new }
     {
         self.put_hex(16, n);
-        self.put(end);
+        self.put_byte(end);
     }
 
     pub fn put_word(&mut self, word: &[u8], end: u8)
@@ -78,8 +78,8 @@ impl Text<'_> {
         ensures { Puts (length word.now + 1) self.old (ended end word.now) self.new }
     {
         for byte in word.iter() {
-            self.put(*byte);
+            self.put_byte(*byte);
         }
-        self.put(end);
+        self.put_byte(end);
     }
 }

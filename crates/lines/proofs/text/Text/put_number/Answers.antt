@@ -6,8 +6,8 @@ use Rattle.lines.proofs.text.Text.put_number.Goals as goal
 pub put_decimal-requires : goal.put_decimal-requires
 put_decimal-requires c = omega (arith, ten_digits c.args.n (omega arith), c.requires)
 
-pub put-requires : goal.put-requires
-put-requires c = let w = c.put_decimal.ensures in omega (arith, ten_digits c.args.n (omega arith), c.requires, w.ends, w.long)
+pub put_byte-requires : goal.put_byte-requires
+put_byte-requires c = let w = c.put_decimal.ensures in omega (arith, ten_digits c.args.n (omega arith), c.requires, w.ends, w.long)
 
 pub returns : goal.returns
-returns c = wrote_wider (omega (arith, ten_digits c.args.n (omega arith))) (wrote_then c.put_decimal.ensures c.put.ensures)
+returns c = wrote_wider (omega (arith, ten_digits c.args.n (omega arith))) (wrote_then c.put_decimal.ensures c.put_byte.ensures)

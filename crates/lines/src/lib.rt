@@ -53,7 +53,7 @@ fn put_refusal(text: &mut Text, f: Refusal)
     ensures { Puts 19 text.old (refused_line (number f)) text.new }
 {
     text.put_word(b"refused", BLANK);
-    text.put_number(u32::from(f), NEWLINE);
+    text.put_number(f.number(), NEWLINE);
 }
 
 fn put_sizes(text: &mut Text, r: Record)

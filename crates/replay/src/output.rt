@@ -9,7 +9,7 @@ pub fn say_missing(rt: &HostRuntime, at: u32) -> io::Result<()> {
 
 pub fn say(rt: &HostRuntime, at: u32, o: Outcome) -> io::Result<()> {
     if let Some(f) = o.refused {
-        let number = u32::from(f);
+        let number = f.number();
         return println!(rt; "study {at}: refused {number}");
     }
     print!(rt;

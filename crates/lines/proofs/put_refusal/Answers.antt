@@ -4,4 +4,4 @@ use Rattle.lines.proofs.put_refusal.Goals as goal
 
 pub returns : goal.returns
 unfolding refused_line line
-returns c = rw (← c.from.ensures) (wrote_then c.put_word.ensures c.put_number.ensures)
+returns c = rw (← c.number.ensures) (wrote_then c.put_word.ensures c.put_number.ensures)

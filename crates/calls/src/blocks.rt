@@ -13,6 +13,9 @@ use heads::ML_LENGTH;
 use materials::Put;
 use refusals::{Refusal, require};
 
+// The record that a block holds. Put in place of its calls, which would clear room for a `Result` of the record and copy it out of that, some 3 KiB each, in every
+// call on a block.
+#[inline(always)]
 pub fn record_of(b: &[u8]) -> Result<Record, Refusal>
     ensures fault { code result ≡ first (block_fine b.now) bad_study 0 }
     ensures record { IfOk result (λ r. (r ≡ block_record b.now) × (block_fine b.now ≡ true) × (length b.now ≡ block_length)) }

@@ -20,7 +20,9 @@ pub fn put_coeffs(
     let t = tag as u64;
     require(out.len() == 3, Refusal::BadStore)?;
     require(shapes::is_tag(t), Refusal::BadStudy)?;
-    let c = heads::pole_of(t, x, y, z).ade_coeffs(eps0, dt)?;
+    let turned = heads::pole_of(t, x, y, z).ade_coeffs(eps0, dt);
+    turned.stepped?;
+    let c = turned.coeffs;
     out[0] = c.a1;
     out[1] = c.a2;
     out[2] = c.a3;

@@ -13,6 +13,11 @@ use Rattle.codec.specs.Lists.{put, part, every}
 use Rattle.codec.specs.Bytes.{le, unle, bytes_fit}
 use Rattle.codec.proofs.Lists.{put_next, part_put, part_length, every_take}
 
+-- the lowest byte first: 1388 is 5 * 256 + 108
+pub low_first : le 4 1388 ≡ 108 ∷ 5 ∷ 0 ∷ 0 ∷ []
+unfolding le
+low_first = refl
+
 pub length_le : (w n : ℕ) → length (le w n) ≡ w
 unfolding le
 length_le zero n = refl

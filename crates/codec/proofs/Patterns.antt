@@ -44,6 +44,11 @@ pub high_nan : (b : ℕ) → 0x7FF0000000000000 < b % 0x8000000000000000 → of_
 unfolding of_bits
 high_nan b h = is_nan_lem (of_bits binary64 b) (sym (nan_bits_is binary64 b) ∙ high_bits b h)
 
+-- document 01's rule in numbers: the one NaN is written so and accepted so; the pattern after it and its negative are refused
+pub one_nan : (to_bits binary64 nan ≡ 0x7FF8000000000000) × (fine 0x7FF8000000000000 ≡ true) × (fine 0x7FF8000000000001 ≡ false) × (fine 0xFFF8000000000000 ≡ false)
+unfolding to_bits fine nan_bits
+one_nan = (refl, refl, refl, refl)
+
 -- ---- there and back
 -- what is written for a float is a pattern that is accepted
 pub bits_fine : (x : Float) → T (fits binary64 x) → fine (to_bits binary64 x) ≡ true

@@ -1,17 +1,17 @@
--- Tables copied in, and put axis by axis; what is known of a call without fault. Assumes nothing.
-use Prim.Native.Nat.{ℕ, ◌+◌, ◌*◌}
+-- Tables copied in number by number, and put axis by axis; what is known of a call without fault. Assumes nothing.
+use Prim.Native.Nat.{ℕ, ◌+◌, ◌*◌, ◌≤◌, ◌<◌}
+use native.Mathlib.Numerals.{add-one}
 use native.Mathlib.Omega.{arith}
 use mathlib.Core.Path.{◌≡◌, sym, ap, ◌∙◌}
 use mathlib.Core.Bool.{Bool, true, false, ◌&&◌}
-use mathlib.Core.List.{List, ◌++◌, append_assoc}
+use mathlib.Core.List.{List, [], ◌∷◌, ◌++◌}
 use borrow.Author.Tests.{eqb-true}
 use lib.Dec.{eqb}
-use lib.ListN.{length, take, drop, get_or, length-append}
-use lib.Seq.{drop-drop}
+use lib.ListN.{length, take, drop, set, get_or, length-append, length-drop}
+use lib.Seq.{take-suc, get_or-drop}
 use lib.Ieee.{Float}
-use borrow.Rule.Slice.PartMut.{put_mid}
 use Rattle.codec.specs.Lists.{put, part}
-use Rattle.codec.proofs.Lists.{put_whole, part_length}
+use Rattle.codec.proofs.Lists.{put_nil, put_one, put_next, put_whole, put_length, part_length}
 use Rattle.grid.specs.declared.Record.{Record}
 use Rattle.grid.specs.declared.stores.Lengths.{Lengths}
 use Rattle.grid.specs.Inner.Sound.{Sound}
@@ -22,10 +22,27 @@ use Rattle.opening.specs.Layer.{Layer, layer, layer_long}
 use Rattle.opening.proofs.Opened.{front_next, length_inactive}
 use Rattle.cpml.specs.Absorber.{axis_tables, layer_tables, cpml_fault, absorbed}
 
--- a part that was copied over
-pub mid_put : {A : Type 0} (a k : ℕ) (l vs : List A) → length vs ≡ k → put_mid a k l vs ≡ put l a vs
-unfolding put
-mid_put {A} a k l vs e = sym (append_assoc (take a l) vs _) ∙ ap (λ (t : List A). take a l ++ vs ++ t) (drop-drop k a l ∙ ap (λ (n : ℕ). drop (a + n) l) (sym e))
+-- ---- number by number
+part_more : {A : Type 0} (g : List A) (at i : ℕ) (d : A) → at + i < length g → part g at (i + 1) ≡ part g at i ++ (get_or g (at + i) d ∷ [])
+unfolding part
+part_more {A} g at i d h =
+    ap (λ (k : ℕ). take k (drop at g)) (add-one i)
+    ∙ take-suc (drop at g) i d (omega (arith, length-drop at g))
+    ∙ ap (λ (x : A). take i (drop at g) ++ (x ∷ [])) (get_or-drop at g i d)
+
+pub copy_none : {A : Type 0} (l g : List A) (at : ℕ) → l ≡ put l at (part g at 0)
+unfolding part
+copy_none l g at = sym (put_nil l at)
+
+pub copy_more : {A : Type 0} (l g : List A) (at i : ℕ) (d : A) → at + i < length l → at + i < length g →
+    set (put l at (part g at i)) (at + i) (get_or g (at + i) d) ≡ put l at (part g at (i + 1))
+copy_more {A} l g at i d h k =
+    let v : A = get_or g (at + i) d in
+    let e : length (part g at i) ≡ i = part_length g at i (omega arith) in
+    let f : length (put l at (part g at i)) ≡ length l = put_length l at (part g at i) (omega arith) in
+    put_one (put l at (part g at i)) (at + i) v (omega arith)
+    ∙ put_next l at i (part g at i) (v ∷ []) e (let z : at + i + 1 ≤ length l = omega arith in z)
+    ∙ ap (put l at) (sym (part_more g at i d k))
 
 -- ---- axis by axis
 axis_long : (on : Bool) (n : ℕ) (g : List Float) → length g ≡ 6 * n → length (axis_tables on n g) ≡ 6 * n

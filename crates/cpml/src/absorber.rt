@@ -42,6 +42,16 @@ fn periodic_left(periodic: [bool; 3], axes: [bool; 3]) -> [bool; 3]
     ]
 }
 
+// kept: a loop and no `copy_from_slice`, which becomes a call of `memmove`: the library for C needs memcpy and memset from outside and nothing else.
+fn copy(tables: &mut [f64], given: &[f64], at: usize, n: usize)
+    requires { (at + n ≤ length tables.old) × (at + n ≤ length given.now) }
+    ensures { tables.new ≡ put tables.old at (part given.now at n) }
+{
+    for i in 0..n {
+        tables[at + i] = given[at + i];
+    }
+}
+
 // One axis's tables: those handed in if it is active, else those of opening. An active axis's part is written by the copy alone, so that a host
 // that hands in the lent tables themselves, which it must not, keeps them.
 fn put_axis(tables: &mut [f64], given: &[f64], at: usize, n: usize, on: bool)
@@ -49,7 +59,7 @@ fn put_axis(tables: &mut [f64], given: &[f64], at: usize, n: usize, on: bool)
     ensures { tables.new ≡ put tables.old at (axis_tables on n (part given.now at (6 * n))) }
 {
     if on {
-        tables[at..at + 6 * n].copy_from_slice(&given[at..at + 6 * n]);
+        copy(tables, given, at, 6 * n);
     } else {
         opening::inactive_axis(tables, at, n);
     }

@@ -1,7 +1,7 @@
 // At how many places two lists differ, and what was seen of several together.
 #![tactic(auto)]
 
-ghost use Rattle.std.specs.Prelude.{◌≡◌, ◌≢◌, ◌≤◌, ℕ, length};
+ghost use Rattle.std.specs.Prelude.{◌≡◌, ◌≢◌, ◌&&◌, ◌≤◌, ℕ, length};
 ghost use Rattle.std.specs.Float.{nan, binary64};
 ghost use Rattle.std.specs.Float.Ieee.{to_bits};
 ghost use Rattle.differ.specs.Apart.{unlike, apart, numbers, together};
@@ -86,10 +86,11 @@ pub fn compare<T: Element>(a: &[T], b: &mut [T]) -> Compared
     }
 }
 
-// Answers that were read beside numbers: how many they were, at how many places they differ, and in how many comparisons a change that was made on purpose was
-// seen.
+// Answers that were read beside numbers: whether all were there, how many they were, at how many places they differ, and in how many comparisons a change that was
+// made on purpose was seen.
 #[derive(Clone, Copy)]
 pub struct Seen {
+    pub whole: bool,
     pub numbers: u64,
     pub apart: u64,
     pub seen: u64,
@@ -97,9 +98,10 @@ pub struct Seen {
 
 // Of two lists of answers together; beyond what 64 bits hold a count stays at the most.
 pub fn joined(a: Seen, b: Seen) -> Seen
-    ensures { (result.numbers ≡ together a.numbers b.numbers) × (result.apart ≡ together a.apart b.apart) × (result.seen ≡ together a.seen b.seen) }
+    ensures { (result.whole ≡ (a.whole && b.whole)) × (result.numbers ≡ together a.numbers b.numbers) × (result.apart ≡ together a.apart b.apart) × (result.seen ≡ together a.seen b.seen) }
 {
     Seen {
+        whole: a.whole & b.whole,
         numbers: a.numbers.saturating_add(b.numbers),
         apart: a.apart.saturating_add(b.apart),
         seen: a.seen.saturating_add(b.seen),

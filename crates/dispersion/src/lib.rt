@@ -1,7 +1,7 @@
 // Materials with poles, and the coefficients of the recursion that steps a pole's polarization.
 #![tactic(auto)]
 
-ghost use Rattle.std.specs.Prelude.{◌≡◌, IfOk};
+ghost use Rattle.std.specs.Prelude.{◌≡◌};
 ghost use Rattle.refusals.specs.Refusals.{code};
 ghost use Rattle.dispersion.specs.Ade.{second_order, ade_coeffs, pole_fault};
 ghost use Rattle.dispersion.specs.Material.{blank_slot, vacuum_material, plain, one_pole, pushed, conducting};
@@ -34,6 +34,13 @@ pub struct AdeCoeffs {
     pub a1: f64,
     pub a2: f64,
     pub a3: f64,
+}
+
+// A pole's coefficients as they are, infinite or NaN ones too, and BadPole where it cannot be stepped by them.
+#[derive(Clone, Copy)]
+pub struct Turned {
+    pub stepped: Result<(), Refusal>,
+    pub coeffs: AdeCoeffs,
 }
 
 // The first pole_count places hold the poles; what stands in the others means nothing.
@@ -79,18 +86,18 @@ impl Pole {
         }
     }
 
-    // Of a pole that can be stepped by them.
+    // Both are told: who steps a pole asks first whether it can be, and who only reads its numbers has them either way.
     #[tactic(auto, unfolding(crate::specs::Ade::pole_fault, crate::specs::Ade::pole_steps))]
-    pub fn ade_coeffs(self, eps0: f64, dt: f64) -> Result<AdeCoeffs, Refusal>
-        ensures fault { code result ≡ pole_fault eps0 dt self }
-        ensures coeffs { IfOk result (λ k. k ≡ ade_coeffs eps0 dt self) }
+    pub fn ade_coeffs(self, eps0: f64, dt: f64) -> Turned
+        ensures fault { code result.stepped ≡ pole_fault eps0 dt self }
+        ensures coeffs { result.coeffs ≡ ade_coeffs eps0 dt self }
     {
         let k = self.coeffs(eps0, dt);
-        require(
+        let stepped = require(
             k.a1.is_finite() & k.a2.is_finite() & k.a3.is_finite(),
             Refusal::BadPole,
-        )?;
-        Ok(k)
+        );
+        Turned { stepped, coeffs: k }
     }
 }
 

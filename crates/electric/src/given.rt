@@ -1,12 +1,11 @@
 // What the half step reads and does not write.
-ghost use Rattle.std.specs.Prelude.{◌≡◌, ◌+◌, ◌<◌, ◌≤◌, length};
-ghost use Rattle.root.specs.Rounded.{◌⊘◌, zero_f};
+ghost use Rattle.std.specs.Prelude.{◌+◌, ◌<◌, ◌≤◌, length};
 ghost use Rattle.electric.specs.Inner.Row.{OffWallRun, DpRoom};
 
 use crate::row::{Change, Factors};
 use fdtd::turns::{Run, Spot, Turn};
 
-// The field H, the cells' numbers, the layer's tables, the pole store and where dp stands in it, dp/dt where there is none, eps0, and the grid as rows.
+// The field H, the cells' numbers, the layer's tables, the pole store and where dp stands in it, eps0, and the grid as rows.
 #[derive(Clone, Copy)]
 pub struct Inputs<'a> {
     pub h: &'a [f64],
@@ -14,12 +13,10 @@ pub struct Inputs<'a> {
     pub tab: &'a [f64],
     pub poles: &'a [f64],
     pub w: Change,
-    pub none: f64,
     pub eps0: f64,
     pub g: Turn,
     pub ghost sigma_in_bounds: { g.count + g.count + g.count ≤ length media.now },
     pub ghost dp_room: { DpRoom g w poles.now },
-    pub ghost none_value: { none ≡ zero_f ⊘ w.dt },
 }
 
 // What the three components of a row read: its factors f, H, the tables and dp, and where it lies.

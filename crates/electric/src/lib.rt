@@ -253,6 +253,26 @@ fn end_of(n: usize, wraps: bool) -> usize
     }
 }
 
+// In rows. The scratch is a function's own, since its 20 KiB are cleared where that is entered, which short rows do without.
+fn sweep_rows(e: &mut [f64], mem: &mut [f64], x: &Inputs)
+    requires { Fit x.now.g x.now.h.now x.now.tab.now mem.old e.old }
+    ensures { Swept x.now.eps0 x.now.w x.now.g x.now.h.now x.now.media.now x.now.tab.now x.now.poles.now e.old mem.old (x.now.g.t.n * x.now.g.s.n) e.new mem.new }
+{
+    let mut scr = Scratch {
+        first: [0.0; 512],
+        second: [0.0; 512],
+        curl: [0.0; 512],
+    };
+    let mut f = Factors {
+        ca: [0.0; 512],
+        cb: [0.0; 512],
+    };
+    let start = start_of(x.g.r.wraps);
+    let end = end_of(x.g.r.n, x.g.r.wraps);
+    let run = turns::find_lull(x.tab, x.g.r, start, end);
+    sweep(e, mem, &mut scr, &mut f, x, run);
+}
+
 // The whole half step in rows along r.
 fn step_along(e: &mut [f64], mem: &mut [f64], x: &Inputs)
     requires { Fit x.now.g x.now.h.now x.now.tab.now mem.old e.old }
@@ -261,19 +281,7 @@ fn step_along(e: &mut [f64], mem: &mut [f64], x: &Inputs)
     if x.g.r.n < single::SHORT {
         short::sweep_cells(e, mem, x);
     } else {
-        let mut scr = Scratch {
-            first: [0.0; 512],
-            second: [0.0; 512],
-            curl: [0.0; 512],
-        };
-        let mut f = Factors {
-            ca: [0.0; 512],
-            cb: [0.0; 512],
-        };
-        let start = start_of(x.g.r.wraps);
-        let end = end_of(x.g.r.n, x.g.r.wraps);
-        let run = turns::find_lull(x.tab, x.g.r, start, end);
-        sweep(e, mem, &mut scr, &mut f, x, run);
+        sweep_rows(e, mem, x);
     }
 }
 
@@ -307,7 +315,6 @@ pub fn update_e_field(
         tab: tables,
         poles,
         w,
-        none: 0.0 / w.dt,
         eps0,
         g,
     };

@@ -1,6 +1,6 @@
 // The half step cell by cell, all three components of a cell at once: for rows so short that the passes of row.rt take longer to set up than to run.
 ghost use Rattle.std.specs.Prelude.{◌≡◌, not, ◌+◌, ◌*◌, ◌≤◌, ◌<◌, length};
-ghost use Rattle.root.specs.Rounded.{◌⊘◌};
+ghost use Rattle.root.specs.Rounded.{◌⊘◌, zero_f};
 ghost use Rattle.fdtd.specs.Axes.{previous_of, walled};
 ghost use Rattle.fdtd.specs.Inner.Begun.{Known, StoredBy, Near};
 ghost use Rattle.fdtd.specs.Inner.Turns.{Fit};
@@ -15,14 +15,14 @@ use fdtd::{Axis, Coef, single, turns};
 use update::Weights;
 
 // dp/dt of the number at i. Without dispersion it is none, 0.0/dt, divided once for all cells.
-fn term_of(x: &Inputs, i: usize) -> f64
-    requires { x.now.w.at + i < length x.now.poles.now }
+fn term_of(x: &Inputs, none: f64, i: usize) -> f64
+    requires { (none ≡ zero_f ⊘ x.now.w.dt) × (x.now.w.at + i < length x.now.poles.now) }
     ensures { result ≡ dp_of x.now.w x.now.poles.now i ⊘ x.now.w.dt }
 {
     if x.w.on {
         x.poles[x.w.at + i] / x.w.dt
     } else {
-        x.none
+        none
     }
 }
 
@@ -31,6 +31,7 @@ fn component(
     e: &mut [f64],
     mem: &mut [f64],
     x: &Inputs,
+    none: f64,
     g: Turn,
     cell: usize,
     ds: usize,
@@ -42,12 +43,13 @@ fn component(
 )
     requires near { Near g x.now.h.now mem.old e.old cell ds dt }
     requires dp_in_bounds { x.now.w.at + g.r.at + g.count ≤ length x.now.poles.now }
+    requires none_value { none ≡ zero_f ⊘ x.now.w.dt }
     ensures { StoredBy (rule_e x.now.h.now x.now.w x.now.poles.now f.ca f.cb) g cell ds dt moves ks kt e.old mem.old e.new mem.new }
 {
     let q = g.r.at + cell;
     if moves {
         let curl = single::curl_along(mem, x.h, g, cell, ds, cell, dt, cell, ks, kt);
-        e[q] = update::electric_value(f.ca, e[q], curl, term_of(x, q), f.cb);
+        e[q] = update::electric_value(f.ca, e[q], curl, term_of(x, none, q), f.cb);
     } else {
         e[q] = 0.0;
     }
@@ -61,10 +63,20 @@ fn free_at(w: Axis, p: usize) -> bool
 }
 
 // The cell i of the row (s, t).
-fn cell(e: &mut [f64], mem: &mut [f64], x: &Inputs, v: Shared, s: usize, t: usize, i: usize)
+fn cell(
+    e: &mut [f64],
+    mem: &mut [f64],
+    x: &Inputs,
+    none: f64,
+    v: Shared,
+    s: usize,
+    t: usize,
+    i: usize,
+)
     requires fit { Fit x.now.g x.now.h.now x.now.tab.now mem.old e.old }
     requires known { Known x.now.g x.now.tab.now s t (previous_of s x.now.g.s.n) (previous_of t x.now.g.t.n) (not (walled x.now.g.s s)) (not (walled x.now.g.t t)) v }
     requires i_lt_n { i < x.now.g.r.n }
+    requires none_value { none ≡ zero_f ⊘ x.now.w.dt }
     ensures { Moving x.now.eps0 x.now.w x.now.g x.now.h.now x.now.media.now x.now.tab.now x.now.poles.now s t i e.old mem.old e.new mem.new }
 {
     let g = x.g;
@@ -80,15 +92,16 @@ fn cell(e: &mut [f64], mem: &mut [f64], x: &Inputs, v: Shared, s: usize, t: usiz
     let go_t = gor & v.gos;
     let gs = turns::turned(g);
     let gt = turns::turned(gs);
-    component(e, mem, x, g, c, ds, dt, go_r, f, v.ks, v.kt);
-    component(e, mem, x, gs, c, dt, dr, go_s, f, v.kt, kr);
-    component(e, mem, x, gt, c, dr, ds, go_t, f, kr, v.ks);
+    component(e, mem, x, none, g, c, ds, dt, go_r, f, v.ks, v.kt);
+    component(e, mem, x, none, gs, c, dt, dr, go_s, f, v.kt, kr);
+    component(e, mem, x, none, gt, c, dr, ds, go_t, f, kr, v.ks);
 }
 
 // A row of cells.
-fn cells_of_row(e: &mut [f64], mem: &mut [f64], x: &Inputs, s: usize, t: usize)
+fn cells_of_row(e: &mut [f64], mem: &mut [f64], x: &Inputs, none: f64, s: usize, t: usize)
     requires fit { Fit x.now.g x.now.h.now x.now.tab.now mem.old e.old }
     requires s_lt_n { (s < x.now.g.s.n) × (t < x.now.g.t.n) }
+    requires none_value { none ≡ zero_f ⊘ x.now.w.dt }
     ensures { Carried x.now.eps0 x.now.w x.now.g x.now.h.now x.now.media.now x.now.tab.now x.now.poles.now s t e.old mem.old e.new mem.new }
 {
     let g = x.g;
@@ -98,7 +111,7 @@ fn cells_of_row(e: &mut [f64], mem: &mut [f64], x: &Inputs, s: usize, t: usize)
     let got = free_at(g.t, t);
     let v = single::find_shared(x.tab, g, s, t, bs, bt, gos, got);
     for i in 0..g.r.n {
-        cell(e, mem, x, v, s, t, i);
+        cell(e, mem, x, none, v, s, t, i);
     }
 }
 
@@ -108,9 +121,10 @@ pub fn sweep_cells(e: &mut [f64], mem: &mut [f64], x: &Inputs)
     requires { Fit x.now.g x.now.h.now x.now.tab.now mem.old e.old }
     ensures { Swept x.now.eps0 x.now.w x.now.g x.now.h.now x.now.media.now x.now.tab.now x.now.poles.now e.old mem.old (x.now.g.t.n * x.now.g.s.n) e.new mem.new }
 {
+    let none = 0.0 / x.w.dt;
     for t in 0..x.g.t.n {
         for s in 0..x.g.s.n {
-            cells_of_row(e, mem, x, s, t);
+            cells_of_row(e, mem, x, none, s, t);
         }
     }
 }

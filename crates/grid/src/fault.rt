@@ -92,7 +92,7 @@ pub fn material_steps(m: DispersiveMaterial, eps0: f64, dt: f64) -> bool
     ensures { result ≡ material_steps eps0 dt m }
 {
     for slot in 0..m.pole_count {
-        if m.poles[slot].ade_coeffs(eps0, dt).is_err() {
+        if m.poles[slot].ade_coeffs(eps0, dt).stepped.is_err() {
             return false;
         }
     }

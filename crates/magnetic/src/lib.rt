@@ -147,6 +147,22 @@ fn reach(n: usize, wraps: bool) -> usize
     if wraps { n } else { n - 1 }
 }
 
+// In rows. The scratch is a function's own, since its 16 KiB are cleared where that is entered, which short rows do without.
+fn sweep_rows(h: &mut [f64], mem: &mut [f64], x: &Inputs)
+    requires { Fit x.now.g x.now.e.now x.now.tab.now mem.old h.old }
+    ensures { Swept x.now.mu0 x.now.g x.now.e.now x.now.media.now x.now.tab.now h.old mem.old (x.now.g.t.n * x.now.g.s.n) h.new mem.new }
+{
+    let mut scr = Scratch {
+        first: [0.0; 512],
+        second: [0.0; 512],
+        curl: [0.0; 512],
+    };
+    let mut f = [0.0; 512];
+    let end = reach(x.g.r.n, x.g.r.wraps);
+    let run = turns::find_lull(x.tab, x.g.r, 0, end);
+    sweep(h, mem, &mut scr, &mut f, x, run);
+}
+
 // The whole half step in rows along r.
 fn step_along(h: &mut [f64], mem: &mut [f64], x: &Inputs)
     requires { Fit x.now.g x.now.e.now x.now.tab.now mem.old h.old }
@@ -155,15 +171,7 @@ fn step_along(h: &mut [f64], mem: &mut [f64], x: &Inputs)
     if x.g.r.n < single::SHORT {
         short::sweep_cells(h, mem, x);
     } else {
-        let mut scr = Scratch {
-            first: [0.0; 512],
-            second: [0.0; 512],
-            curl: [0.0; 512],
-        };
-        let mut f = [0.0; 512];
-        let end = reach(x.g.r.n, x.g.r.wraps);
-        let run = turns::find_lull(x.tab, x.g.r, 0, end);
-        sweep(h, mem, &mut scr, &mut f, x, run);
+        sweep_rows(h, mem, x);
     }
 }
 

@@ -21,6 +21,7 @@ fn main(rt: HostRuntime) -> io::Result<()> {
     // A list without this number is one whose first study is missing.
     let count = input::list_length(&rt).unwrap_or(1);
     let mut all = Seen {
+        whole: true,
         numbers: 0,
         apart: 0,
         seen: 0,

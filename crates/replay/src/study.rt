@@ -1,5 +1,6 @@
 // One study: read, run, and compared with its answers. What the list does not hold is None.
-ghost use Rattle.std.specs.Prelude.{◌≡◌, cond, length, is_none, IfSome};
+ghost use Rattle.std.specs.Prelude.{◌≡◌, cond, length, is_none, is_some, IfSome};
+ghost use Rattle.differ.specs.Apart.{apart, pattern, element};
 
 use super::input;
 use super::input::Counts;
@@ -20,66 +21,93 @@ pub struct Outcome {
     pub seen: Seen,
 }
 
-// As many answers as there are numbers, read into b and compared.
-fn see_into(rt: &HostRuntime, xs: &[f64], b: &mut [f64]) -> Option<Seen>
+// Numbers beside answers, by their patterns.
+fn seen_floats(whole: bool, xs: &[f64], b: &mut [f64]) -> Seen
     requires { length xs.now ≡ length b.old }
-    ensures { IfSome result (λ s. s.numbers ≡ length xs.now) }
+    ensures { (result.whole ≡ whole) × (result.numbers ≡ length xs.now) × (result.apart ≡ apart (length xs.now) (pattern xs.now) (pattern b.old)) }
 {
-    input::read_store(rt, b)?;
     let c = differ::compare(xs, b);
-    Some(Seen {
+    Seen {
+        whole,
         numbers: xs.len() as u64,
         apart: c.apart as u64,
         seen: c.seen,
-    })
+    }
 }
 
-fn see_floats(rt: &HostRuntime, xs: &[f64]) -> Option<Seen> {
+// A block's bytes beside those of the answer; they are no numbers.
+fn seen_bytes(whole: bool, a: &[u8], b: &mut [u8]) -> Seen
+    requires { length a.now ≡ length b.old }
+    ensures { (result.whole ≡ whole) × (result.numbers ≡ 0) × (result.apart ≡ apart (length a.now) (element a.now) (element b.old)) }
+{
+    let c = differ::compare(a, b);
+    Seen {
+        whole,
+        numbers: 0,
+        apart: c.apart as u64,
+        seen: c.seen,
+    }
+}
+
+// As many answers as there are numbers, read into b and compared.
+fn see_into(rt: &HostRuntime, xs: &[f64], b: &mut [f64]) -> Seen
+    requires { length xs.now ≡ length b.old }
+    ensures { result.numbers ≡ length xs.now }
+{
+    let whole = input::read_store(rt, b).is_some();
+    seen_floats(whole, xs, b)
+}
+
+fn see_floats(rt: &HostRuntime, xs: &[f64]) -> Seen {
     let mut b = [0.0; 864];
     if b.len() < xs.len() {
-        return None;
+        return Seen {
+            whole: false,
+            numbers: 0,
+            apart: 0,
+            seen: 0,
+        };
     }
     see_into(rt, xs, &mut b[..xs.len()])
 }
 
 // Two stores, one after the other.
-fn see_two(rt: &HostRuntime, a: &[f64], b: &[f64]) -> Option<Seen> {
-    let first = see_floats(rt, a)?;
-    let second = see_floats(rt, b)?;
-    Some(differ::joined(first, second))
+fn see_two(rt: &HostRuntime, a: &[f64], b: &[f64]) -> Seen {
+    let first = see_floats(rt, a);
+    let second = see_floats(rt, b);
+    differ::joined(first, second)
 }
 
 // The block of a record beside the one that is answered.
-fn see_block(rt: &HostRuntime, r: Record) -> Option<Seen> {
+fn see_block(rt: &HostRuntime, r: Record) -> Seen {
     let mut a = [0u8; BLOCK_LENGTH];
     let mut b = [0u8; BLOCK_LENGTH];
     block::put_record(&mut a, r);
-    input::read_bytes(rt, &mut b)?;
-    let c = differ::compare(&a, &mut b);
-    Some(Seen {
-        numbers: 0,
-        apart: c.apart as u64,
-        seen: c.seen,
-    })
+    let whole = input::read_bytes(rt, &mut b).is_some();
+    seen_bytes(whole, &a, &mut b)
 }
 
-// What is said of a study. Where it was refused, every number is apart.
-fn told(refused: Option<Refusal>, r: Record, steps: usize, seen: Seen) -> Outcome
-    ensures { (result.seen.numbers ≡ seen.numbers) × (result.seen.apart ≡ cond (is_none refused) seen.apart seen.numbers) × (result.seen.seen ≡ seen.seen) }
+// What is said of a study, where all its answers were there. Where it was refused, every number is apart.
+fn told(refused: Option<Refusal>, r: Record, steps: usize, seen: Seen) -> Option<Outcome>
+    ensures there { is_some result ≡ seen.whole }
+    ensures said { IfSome result (λ o. (o.seen.numbers ≡ seen.numbers) × (o.seen.apart ≡ cond (is_none refused) seen.apart seen.numbers) × (o.seen.seen ≡ seen.seen)) }
 {
+    if !seen.whole {
+        return None;
+    }
     let apart = if refused.is_none() {
         seen.apart
     } else {
         seen.numbers
     };
-    Outcome {
+    Some(Outcome {
         refused,
         nx: r.nx,
         ny: r.ny,
         nz: r.nz,
         steps,
         seen: Seen { apart, ..seen },
-    }
+    })
 }
 
 // The nine stores, and the samples.
@@ -134,12 +162,12 @@ fn play(
         clock: moved.unwrap_or(r.clock),
         ..r
     };
-    let fields = see_two(rt, e, h)?;
-    let layer = see_two(rt, psi_e, psi_h)?;
-    let rest = see_two(rt, poles, aux)?;
-    let block = see_block(rt, q)?;
+    let fields = see_two(rt, e, h);
+    let layer = see_two(rt, psi_e, psi_h);
+    let rest = see_two(rt, poles, aux);
+    let block = see_block(rt, q);
     let seen = differ::joined(differ::joined(fields, layer), differ::joined(rest, block));
-    Some(told(moved.err(), q, samples.len(), seen))
+    told(moved.err(), q, samples.len(), seen)
 }
 
 // Whether each part fits its array: those of 64 cells, sides of up to 18 and 24 together, 864 numbers of poles, and 3 samples.

@@ -9,7 +9,7 @@ pub invariant_of-x : goal.invariant_of-x
 invariant_of-x c =
     let pre = c.requires in
     let n = count_for c.args.r 0 _ c.turn_of-g.ensures in
-    record { sigma_in_bounds = omega (arith, n, pre.h_len.1); dp_room = held_for c.args.r _ pre.poles_len c.turn_of-g.ensures; none_value = refl }
+    record { sigma_in_bounds = omega (arith, n, pre.h_len.1); dp_room = held_for c.args.r _ pre.poles_len c.turn_of-g.ensures }
 
 pub step_along-requires : goal.step_along-requires
 step_along-requires c =

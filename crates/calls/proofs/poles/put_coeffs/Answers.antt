@@ -23,11 +23,11 @@ returns-in_err-require-2 c =
     let told : code c.from_residual-in_err-require-2.result ≡ coeffs_fault a.tag (length a.out.now) (pole_fault a.eps0 a.dt (pole_of a.tag a.x a.y a.z)) = search rules in
     refused _ _ _ (search rules) told
 
-pub returns-in_err-c : goal.returns-in_err-c
+pub returns-in_err-turned : goal.returns-in_err-turned
 unfolding coeffs_call
-returns-in_err-c c =
+returns-in_err-turned c =
     let a = c.args in
-    let told : code c.from_residual-in_err-c.result ≡ coeffs_fault a.tag (length a.out.now) (pole_fault a.eps0 a.dt (pole_of a.tag a.x a.y a.z)) = search rules in
+    let told : code c.from_residual-in_err-turned.result ≡ coeffs_fault a.tag (length a.out.now) (pole_fault a.eps0 a.dt (pole_of a.tag a.x a.y a.z)) = search rules in
     refused _ _ _ (search rules) told
 
 pub returns : goal.returns
@@ -36,5 +36,5 @@ returns c =
     let a = c.args in
     let long : length a.out.now ≡ 3 = search rules in
     let none : 0 ≡ coeffs_fault a.tag (length a.out.now) (pole_fault a.eps0 a.dt (pole_of a.tag a.x a.y a.z)) = search rules in
-    let same : c.in_ok-c.c ≡ ade_coeffs a.eps0 a.dt (pole_of a.tag a.x a.y a.z) = search rules in
+    let same : c.ade_coeffs-turned.result.coeffs ≡ ade_coeffs a.eps0 a.dt (pole_of a.tag a.x a.y a.z) = search rules in
     rw (← none) (ap (readout 0) (written a.out.now _ _ _ long ∙ ap three same))

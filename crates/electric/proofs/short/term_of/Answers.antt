@@ -10,4 +10,4 @@ returns-then-x c =
 pub returns-else-x : goal.returns-else-x
 returns-else-x c =
     let a = c.args in
-    term_off a.x.now.w a.x.now.poles.now a.i c.if-x.false a.x.now.none_value
+    term_off a.x.now.w a.x.now.poles.now a.i c.if-x.false c.requires.0

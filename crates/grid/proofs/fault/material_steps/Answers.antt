@@ -20,8 +20,8 @@ returns-then-is_err c =
     let m = c.args.m in
     let slot = c.loop-slot.slot in
     let inside : slot < length m.poles = search rules in
-    let fault : code c.ade_coeffs.result ≡ pole_fault c.args.eps0 c.args.dt (pole_in m slot) = c.ade_coeffs.ensures.fault ∙ ap (pole_fault c.args.eps0 c.args.dt) (pole_within m slot _ inside) in
-    let refused : IsErr c.ade_coeffs.result = search rules in
+    let fault : code c.ade_coeffs.result.stepped ≡ pole_fault c.args.eps0 c.args.dt (pole_in m slot) = c.ade_coeffs.ensures.fault ∙ ap (pole_fault c.args.eps0 c.args.dt) (pole_within m slot _ inside) in
+    let refused : IsErr c.ade_coeffs.result.stepped = search rules in
     sym (all_fails _ slot _ c.loop-slot-test.true (stays _ _ _ fault (some _ refused)))
 
 pub loop-slot-preserved : goal.loop-slot-preserved
@@ -29,8 +29,8 @@ loop-slot-preserved c =
     let m = c.args.m in
     let slot = c.loop-slot.slot in
     let inside : slot < length m.poles = search rules in
-    let fault : code c.ade_coeffs.result ≡ pole_fault c.args.eps0 c.args.dt (pole_in m slot) = c.ade_coeffs.ensures.fault ∙ ap (pole_fault c.args.eps0 c.args.dt) (pole_within m slot _ inside) in
-    let taken : code c.ade_coeffs.result ≡ 0 = search rules in
+    let fault : code c.ade_coeffs.result.stepped ≡ pole_fault c.args.eps0 c.args.dt (pole_in m slot) = c.ade_coeffs.ensures.fault ∙ ap (pole_fault c.args.eps0 c.args.dt) (pole_within m slot _ inside) in
+    let taken : code c.ade_coeffs.result.stepped ≡ 0 = search rules in
     all_more _ slot c.loop-slot.invariant (steps _ _ _ fault taken)
 
 pub returns : goal.returns
